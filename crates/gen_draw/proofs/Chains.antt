@@ -1,5 +1,6 @@
 -- A text to which pieces are appended one after another.
-use Rattle.std.proofs.Common.{◌≡◌, ◌∙◌, ◌++◌, ℕ, List, Result, Ok, Err, OnOk, ap, append_assoc}
+use Rattle.std.proofs.Common.{◌≡◌, ◌∙◌, ◌++◌, ℕ, List, Result, Ok, Err, OnOk, ap, append_assoc, if◌then◌else◌}
+use Rattle.std.specs.Result.{is_ok}
 
 -- what the last call appends stands behind what the first one appended
 pub behind : {E : Type 0} (r : Result (Unit {0}) E) (old first mid others new : List ℕ) → mid ≡ old ++ first
@@ -7,6 +8,15 @@ pub behind : {E : Type 0} (r : Result (Unit {0}) E) (old first mid others new : 
 behind (Ok done) old first mid others new before after =
     (after ∙ ap (λ (xs : List ℕ). xs ++ others) before) ∙ append_assoc old first others
 behind (Err e) old first mid others new before after = tt
+
+-- two pieces
+pub both : (old first second mid new : List ℕ) → mid ≡ old ++ first → new ≡ mid ++ second → new ≡ old ++ (first ++ second)
+both old first second mid new before after = (after ∙ ap (λ (xs : List ℕ). xs ++ second) before) ∙ append_assoc old first second
+
+-- what the last call leaves, if it appended its text
+pub ended : {E : Type 0} (r : Result (Unit {0}) E) (new whole old : List ℕ) → new ≡ (if is_ok r then whole else old) → OnOk r (new ≡ whole)
+ended (Ok done) new whole old is = is
+ended (Err e) new whole old is = tt
 
 -- six pieces
 pub six : {E : Type 0} (r : Result (Unit {0}) E) (old a b c d e f one two three four five new : List ℕ) → one ≡ old ++ a → two ≡ one ++ b

@@ -1,5 +1,5 @@
 //! The arrows of messages.
-ghost use Rattle.std.specs.Prelude.{◌≡◌, ◌++◌, OnOk, length, string_bytes};
+ghost use Rattle.std.specs.Prelude.{◌≡◌, ◌++◌, OnOk, string_bytes};
 ghost use Rattle.std.specs.List.{flat_map};
 ghost use Rattle.gen_draw.specs.Arrows.{
   arrow_line,
@@ -13,7 +13,6 @@ use crate::arrow::{Arrow, ToldBy};
 use crate::grid::Grid;
 use crate::rows::{middle_of, row_of};
 use crate::shapes::push_words;
-use gen_net::Message;
 use gen_types::GeneralNo;
 use std::alloc::AllocError;
 
@@ -88,13 +87,6 @@ fn push_told(out: &mut String, told: ToldBy, from: u8, to: u8) -> Result<(), All
     }
 }
 
-/// Returns the round of a message.
-fn round_of(message: &Message) -> u16
-    ensures { result ≡ length message.now.path }
-{
-    message.path.len() as u16
-}
-
 /// Appends the arrow of a message that some shown log has: its title, which is the message in words with its path and
 /// which logs have it, its line, and the number of its order at the middle of the line.
 #[tactic(auto, unfolding(crate::specs::Arrows::arrow_line))]
@@ -105,7 +97,7 @@ fn push_arrow(out: &mut String, grid: Grid, arrow: &Arrow) -> Result<(), AllocEr
     let from = arrow.message.from.get();
     let to = arrow.message.to.get();
     let order = arrow.message.order.get();
-    let round = round_of(&arrow.message);
+    let round = arrow.message.path.len() as u16;
     push_arrow_opening(out, arrow.told, from, to, round, order)?;
     push_path(out, arrow.message.path.generals())?;
     push_told(out, arrow.told, from, to)?;

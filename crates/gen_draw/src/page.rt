@@ -3,49 +3,40 @@ ghost use Rattle.std.specs.Prelude.{◌≡◌, ◌++◌, OnOk, string_bytes};
 ghost use Rattle.gen_draw.specs.Page.{
   general_line,
   heads_of,
-  legend_line,
   legend_lines,
   life_of,
-  round_line,
   round_lines,
 };
 
 use crate::grid::Grid;
 use crate::rows::{legend_row, row_of};
-use crate::shapes::push_head;
 use std::alloc::AllocError;
 
-/// Appends the heads of arrows, one for each order.
-
+/// Appends the heads of arrows, one for each order in its colour.
 pub fn push_heads(out: &mut String, grid: Grid) -> Result<(), AllocError>
     ensures { OnOk result (string_bytes out.new ≡ string_bytes out.old ++ heads_of grid) }
 {
     for order in 0..grid.orders {
-        push_head(out, order)?;
+        write!(
+            out,
+            "<marker id=\"h{order}\" class=\"o{order}\" viewBox=\"0 0 8 8\" refX=\"8\" refY=\"4\" markerWidth=\"6\" markerHeight=\"6\" orient=\"auto\"><path d=\"M0 0L8 4L0 8z\"/></marker>\n"
+        )?;
     }
     Ok(())
 }
 
-/// Appends the column of a round: its title, a line downwards, and the round's number above it.
-#[tactic(auto, unfolding(crate::specs::Page::round_line))]
-fn push_round(out: &mut String, grid: Grid, round: u16) -> Result<(), AllocError>
-    ensures { OnOk result (string_bytes out.new ≡ string_bytes out.old ++ round_line grid round) }
-{
-    let x = grid.column(round);
-    let end = row_of(grid.generals);
-    write!(
-        out,
-        "<g class=\"round\"><title>round {round}</title><path d=\"M{x} 64L{x} {end}\"/><text x=\"{x}\" y=\"60\">round {round}</text></g>\n"
-    )
-}
-
-/// Appends the columns of all rounds.
-
+/// Appends the column of each round: its title, a line downwards, and the round's number above it.
 pub fn push_rounds(out: &mut String, grid: Grid) -> Result<(), AllocError>
     ensures { OnOk result (string_bytes out.new ≡ string_bytes out.old ++ round_lines grid) }
 {
+    let end = row_of(grid.generals);
     for before in 0..grid.rounds {
-        push_round(out, grid, u16::from(before) + 1)?;
+        let round = u16::from(before) + 1;
+        let x = grid.column(round);
+        write!(
+            out,
+            "<g class=\"round\"><title>round {round}</title><path d=\"M{x} 64L{x} {end}\"/><text x=\"{x}\" y=\"60\">round {round}</text></g>\n"
+        )?;
     }
     Ok(())
 }
@@ -88,27 +79,17 @@ pub fn push_general(out: &mut String, grid: Grid, held: bool, general: u8) -> Re
     }
 }
 
-/// Appends an order in the legend: its title, a line in its colour, and its number.
-#[tactic(auto, unfolding(crate::specs::Page::legend_line))]
-fn push_legend(out: &mut String, generals: u8, order: u8) -> Result<(), AllocError>
-    ensures { OnOk result
-        (string_bytes out.new ≡ string_bytes out.old ++ legend_line generals order) }
-{
-    let y = legend_row(generals, order);
-    let below = y + 4;
-    write!(
-        out,
-        "<g class=\"o{order}\"><title>order {order}</title><path d=\"M16 {y}L56 {y}\"/><text x=\"64\" y=\"{below}\">order {order}</text></g>\n"
-    )
-}
-
-/// Appends the legend of orders.
-
+/// Appends the legend, which has for each order its title, a line in its colour, and its number.
 pub fn push_legends(out: &mut String, grid: Grid) -> Result<(), AllocError>
     ensures { OnOk result (string_bytes out.new ≡ string_bytes out.old ++ legend_lines grid) }
 {
     for order in 0..grid.orders {
-        push_legend(out, grid.generals, order)?;
+        let y = legend_row(grid.generals, order);
+        let below = y + 4;
+        write!(
+            out,
+            "<g class=\"o{order}\"><title>order {order}</title><path d=\"M16 {y}L56 {y}\"/><text x=\"64\" y=\"{below}\">order {order}</text></g>\n"
+        )?;
     }
     Ok(())
 }

@@ -2,30 +2,16 @@
 ghost use Rattle.std.specs.Prelude.{◌≡◌, ◌++◌, IfOk, OnOk, map, string_bytes};
 ghost use Rattle.gen_convict.specs.Evidence.{told_of};
 ghost use Rattle.gen_draw.specs.Picture.{
-  agreed_heading,
-  explained_heading,
-  no_heading,
-  run_title,
-  run_words,
-  end_lines,
   frame,
-  general_lines,
   grid_of,
   heading,
-  line_in,
-  note_lines,
   notes,
   page_back,
   picture,
-  run_heading,
   run_part,
-  story,
-  verdict_heading,
 };
-ghost use Rattle.gen_draw.specs.Drawing.{arrows_of};
 ghost use Rattle.gen_draw.specs.Shown.{all_decided};
 
-use crate::arrow::Arrow;
 use crate::arrows::push_arrows;
 use crate::grid::Grid;
 use crate::marks::{push_end, push_message_marks, push_note};
@@ -36,8 +22,6 @@ use crate::shown::told_by;
 use crate::style::push_style;
 use crate::telling::arrows_between;
 use gen_audit::{Bundle, Judgement, Verdict};
-use gen_convict::Evidence;
-use gen_match::Finding;
 use gen_net::{Header, Net};
 use gen_types::{GeneralNo, GeneralSet, OrderNo};
 use std::alloc::{AllocError, Global};
@@ -54,72 +38,9 @@ pub(crate) fn grid_of(net: &Net) -> Grid
     }
 }
 
-/// Appends the run id as the title of the picture.
-#[tactic(auto, unfolding(crate::specs::Picture::run_title))]
-fn push_run_title(out: &mut String, digits: &str) -> Result<(), AllocError>
-    ensures { OnOk result (string_bytes out.new ≡ string_bytes out.old ++ run_title digits.now) }
-{
-    write!(out, "<title>run {digits}</title>\n")
-}
-
-/// Appends the run id as words to be read.
-#[tactic(auto, unfolding(crate::specs::Picture::run_words))]
-fn push_run_words(out: &mut String, digits: &str) -> Result<(), AllocError>
-    ensures { OnOk result (string_bytes out.new ≡ string_bytes out.old ++ run_words digits.now) }
-{
-    write!(out, "<text x=\"16\" y=\"24\">run {digits}</text>\n")
-}
-
-/// Appends the run id in hexadecimal, as the title of the picture and as words to be read.
-fn push_run(alloc: Global, out: &mut String, header: &Header) -> Result<(), AllocError>
-    ensures { OnOk result (string_bytes out.new ≡ string_bytes out.old ++ run_heading header.now) }
-{
-    let digits = hex::encode(alloc, *header.run_id())?;
-    push_run_title(out, digits.as_str())?;
-    push_run_words(out, digits.as_str())
-}
-
-/// Appends the verdict that the rest agreed on an order.
-#[tactic(auto, unfolding(crate::specs::Picture::agreed_heading))]
-fn push_agreed(out: &mut String, order: u8) -> Result<(), AllocError>
-    ensures { OnOk result (string_bytes out.new ≡ string_bytes out.old ++ agreed_heading order) }
-{
-    write!(
-        out,
-        "<text x=\"16\" y=\"44\"><title>the verdict</title>verdict agreed {order}</text>\n"
-    )
-}
-
-/// Appends the verdict that all is explained.
-#[tactic(auto, unfolding(crate::specs::Picture::explained_heading))]
-fn push_explained(out: &mut String) -> Result<(), AllocError>
-    ensures { OnOk result (string_bytes out.new ≡ string_bytes out.old ++ explained_heading) }
-{
-    out.push_str("<text x=\"16\" y=\"44\"><title>the verdict</title>verdict explained</text>\n")
-}
-
-/// Appends the verdict "no".
-#[tactic(auto, unfolding(crate::specs::Picture::no_heading))]
-fn push_no(out: &mut String) -> Result<(), AllocError>
-    ensures { OnOk result (string_bytes out.new ≡ string_bytes out.old ++ no_heading) }
-{
-    out.push_str("<text x=\"16\" y=\"44\"><title>the verdict</title>verdict no</text>\n")
-}
-
-/// Appends the verdict, without its findings.
-fn push_verdict(out: &mut String, verdict: &Verdict) -> Result<(), AllocError>
-    ensures { OnOk result
-        (string_bytes out.new ≡ string_bytes out.old ++ verdict_heading verdict.now) }
-{
-    match verdict {
-        Verdict::Agreed(order) => push_agreed(out, order.get()),
-        Verdict::Explained(_) => push_explained(out),
-        Verdict::No(_) => push_no(out),
-    }
-}
-
-/// Appends the run id and the verdict.
-#[tactic(auto, unfolding(crate::specs::Picture::heading))]
+/// Appends the run id in hexadecimal, as the title of the picture and as words to be read, and the verdict without its
+/// findings.
+#[tactic(auto, unfolding(crate::specs::Picture::heading, crate::specs::Picture::run_title, crate::specs::Picture::run_words, crate::specs::Picture::agreed_heading, crate::specs::Picture::explained_heading, crate::specs::Picture::no_heading))]
 fn push_heading(
     alloc: Global,
     out: &mut String,
@@ -129,69 +50,37 @@ fn push_heading(
     ensures { OnOk result
         (string_bytes out.new ≡ string_bytes out.old ++ heading header.now verdict.now) }
 {
-    push_run(alloc, out, header)?;
-    push_verdict(out, verdict)
-}
-
-/// Appends the line of a general, in grey if it is held for faulty.
-#[tactic(auto, unfolding(crate::specs::Picture::line_in))]
-fn push_line(
-    out: &mut String,
-    net: &Net,
-    faulty: &GeneralSet,
-    general: GeneralNo,
-) -> Result<(), AllocError>
-    ensures { OnOk result
-        (string_bytes out.new ≡ string_bytes out.old ++ line_in net.now faulty.now general) }
-{
-    push_general(out, grid_of(net), faulty.contains(general), general.get())
-}
-
-/// Appends the lines of all generals.
-fn push_lines(out: &mut String, net: &Net, faulty: &GeneralSet) -> Result<(), AllocError>
-    ensures { OnOk result
-        (string_bytes out.new ≡ string_bytes out.old ++ general_lines net.now faulty.now) }
-{
-    for number in 0..net.generals() {
-        push_line(out, net, faulty, GeneralNo::at(number))?;
+    let digits = hex::encode(alloc, *header.run_id())?;
+    write!(out, "<title>run {digits}</title>\n")?;
+    write!(out, "<text x=\"16\" y=\"24\">run {digits}</text>\n")?;
+    match verdict {
+        Verdict::Agreed(order) => {
+            let order = order.get();
+            write!(
+                out,
+                "<text x=\"16\" y=\"44\"><title>the verdict</title>verdict agreed {order}</text>\n"
+            )
+        }
+        Verdict::Explained(_) => out.push_str(
+            "<text x=\"16\" y=\"44\"><title>the verdict</title>verdict explained</text>\n",
+        ),
+        Verdict::No(_) => {
+            out.push_str("<text x=\"16\" y=\"44\"><title>the verdict</title>verdict no</text>\n")
+        }
     }
-    Ok(())
 }
 
-/// Appends the columns of rounds and the lines of generals.
+/// Appends the columns of rounds and the lines of generals, of which those that are held for faulty are grey.
 #[tactic(auto, unfolding(crate::specs::Picture::frame))]
 fn push_frame(out: &mut String, net: &Net, faulty: &GeneralSet) -> Result<(), AllocError>
     ensures { OnOk result
         (string_bytes out.new ≡ string_bytes out.old ++ frame net.now faulty.now) }
 {
-    push_rounds(out, grid_of(net))?;
-    push_lines(out, net, faulty)
-}
-
-/// Appends the words at the ends of all generals' lines: decisions and convictions.
-fn push_ends(
-    out: &mut String,
-    net: &Net,
-    grid: Grid,
-    decided: &[(GeneralNo, OrderNo)],
-    convictions: &[Evidence],
-) -> Result<(), AllocError>
-    ensures { OnOk result (string_bytes out.new ≡ string_bytes out.old
-        ++ end_lines grid net.now.generals decided.now (map told_of convictions.now)) }
-{
+    let grid = grid_of(net);
+    push_rounds(out, grid)?;
     for number in 0..net.generals() {
-        push_end(out, grid, decided, convictions, GeneralNo::at(number))?;
-    }
-    Ok(())
-}
-
-/// Appends the words below all generals' lines: findings.
-fn push_notes(out: &mut String, net: &Net, findings: &[Finding]) -> Result<(), AllocError>
-    ensures { OnOk result
-        (string_bytes out.new ≡ string_bytes out.old ++ note_lines net.now findings.now) }
-{
-    for number in 0..net.generals() {
-        push_note(out, findings, GeneralNo::at(number))?;
+        let held = faulty.contains(GeneralNo::at(number));
+        push_general(out, grid, held, number)?;
     }
     Ok(())
 }
@@ -213,26 +102,10 @@ fn push_back(out: &mut String, grid: Grid) -> Result<(), AllocError>
     )
 }
 
-/// Appends the messages, and over them the findings at messages.
-#[tactic(auto, unfolding(crate::specs::Picture::story))]
-fn push_story(
-    out: &mut String,
-    bundle: &Bundle,
-    arrows: &[Arrow],
-    verdict: &Verdict,
-) -> Result<(), AllocError>
-    requires { arrows.now ≡ arrows_of bundle.now.header bundle.now.exhibits }
-    ensures { OnOk result (string_bytes out.new
-        ≡ string_bytes out.old ++ story bundle.now.header bundle.now.exhibits verdict.now) }
-{
-    let grid = grid_of(bundle.header().net());
-    push_arrows(out, grid, arrows)?;
-    push_message_marks(out, grid, verdict.findings())
-}
-
-/// Appends what each general decided, which generals are convicted, and what is found against each.
+/// Appends at the ends of generals' lines what each decided and by what it is convicted, and below the lines what is
+/// found against each.
 #[tactic(auto, unfolding(crate::specs::Picture::notes))]
-fn push_all_notes(
+fn push_notes(
     out: &mut String,
     bundle: &Bundle,
     decided: &[(GeneralNo, OrderNo)],
@@ -244,18 +117,20 @@ fn push_all_notes(
         (map told_of judgement.now.convictions.items)) }
 {
     let net = bundle.header().net();
-    push_ends(
-        out,
-        net,
-        grid_of(net),
-        decided,
-        judgement.convictions.as_slice(),
-    )?;
-    push_notes(out, net, judgement.verdict.findings())
+    let grid = grid_of(net);
+    let convictions = judgement.convictions.as_slice();
+    for number in 0..net.generals() {
+        push_end(out, grid, decided, convictions, GeneralNo::at(number))?;
+    }
+    let findings = judgement.verdict.findings();
+    for number in 0..net.generals() {
+        push_note(out, findings, GeneralNo::at(number))?;
+    }
+    Ok(())
 }
 
 /// Appends what a picture says of a bundle and of the judgement on it, and the end of the text.
-#[tactic(auto, unfolding(crate::specs::Picture::run_part))]
+#[tactic(auto, unfolding(crate::specs::Picture::run_part, crate::specs::Picture::story))]
 pub(crate) fn push_run_part(
     alloc: Global,
     out: &mut String,
@@ -267,13 +142,15 @@ pub(crate) fn push_run_part(
         (map told_of judgement.now.convictions.items)) }
 {
     let header = bundle.header();
+    let grid = grid_of(header.net());
     let told = told_by(alloc, header, bundle.exhibits())?;
     let arrows = arrows_between(alloc, told.sent.as_slice(), told.received.as_slice())?;
     push_heading(alloc, out, header, &judgement.verdict)?;
     push_frame(out, header.net(), bundle.faulty())?;
-    push_story(out, bundle, arrows.as_slice(), &judgement.verdict)?;
-    push_all_notes(out, bundle, told.decided.as_slice(), judgement)?;
-    push_back(out, grid_of(header.net()))
+    push_arrows(out, grid, arrows.as_slice())?;
+    push_message_marks(out, grid, judgement.verdict.findings())?;
+    push_notes(out, bundle, told.decided.as_slice(), judgement)?;
+    push_back(out, grid)
 }
 
 /// Returns the picture of a bundle and of the judgement on it, as an SVG text. Each general is a line from left to

@@ -6,23 +6,17 @@ ghost use Rattle.gen_convict.specs.Told.{told};
 ghost use Rattle.gen_draw.specs.Grid.{height_of};
 ghost use Rattle.gen_draw.specs.Several.{
   across_height,
-  across_opening,
   across_part,
   across_span,
   across_words,
   both_words,
   bottom_from,
-  convicted_words,
-  grid_in,
   kind_across,
   place_with,
   place_words,
   run_at,
-  run_opening,
   runs_from,
-  several_front,
   several_picture,
-  several_title,
   widest_from,
 };
 
@@ -37,39 +31,24 @@ use gen_net::Header;
 use gen_types::limits::{MOST_GENERALS, MOST_ORDERS, MOST_ROUNDS};
 use std::alloc::{AllocError, Global};
 
-/// Returns the size of the picture of a bundle: its generals, orders and rounds.
-fn grid_in(bundle: &Bundle) -> Grid
-    ensures { result ≡ grid_in bundle.now }
-{
-    grid_of(bundle.header().net())
-}
-
-/// Returns how far down the pictures of bundles end if they stand below one another from the top.
-fn bottom_of(bundles: &[Bundle]) -> u32
+/// Returns the width of the widest picture of bundles, and how far down the pictures end if they stand below one another
+/// from the top; 0 and 0 if there is none.
+fn extent_of(bundles: &[Bundle]) -> (u32, u32)
     requires { length bundles.now < 2 ^ 16 }
-    ensures value { result ≡ bottom_from 0 bundles.now }
-    ensures small { result < 2 ^ 31 }
+    ensures width { result.0 ≡ widest_from 0 bundles.now }
+    ensures bottom { result.1 ≡ bottom_from 0 bundles.now }
+    ensures small { result.1 < 2 ^ 31 }
 {
+    let mut width = 0u32;
     let mut down = 0u32;
     let mut runs = bundles;
     'runs: while let Some((run, others)) = runs.split_first() {
-        down += grid_in(run).height();
+        let grid = grid_of(run.header().net());
+        width = width.max(grid.width());
+        down += grid.height();
         runs = others;
     }
-    down
-}
-
-/// Returns the width of the widest picture of bundles; 0 if there is none.
-fn widest_of(bundles: &[Bundle]) -> u32
-    ensures { result ≡ widest_from 0 bundles.now }
-{
-    let mut width = 0u32;
-    let mut runs = bundles;
-    'runs: while let Some((run, others)) = runs.split_first() {
-        width = width.max(grid_in(run).width());
-        runs = others;
-    }
-    width
+    (width, down)
 }
 
 /// The most lines for generals that are convicted across runs: one for each general.
@@ -85,16 +64,8 @@ fn across_height(count: usize) -> u32
     24 + 18 * count.min(MOST_LINES) as u32
 }
 
-/// Appends the beginning of the picture of a run at a height.
-#[tactic(auto, unfolding(crate::specs::Several::run_opening))]
-fn push_run_opening(out: &mut String, down: u32) -> Result<(), AllocError>
-    ensures { OnOk result (string_bytes out.new ≡ string_bytes out.old ++ run_opening down) }
-{
-    write!(out, "<g transform=\"translate(0 {down})\">\n")
-}
-
 /// Appends the picture of a run at a height.
-#[tactic(auto, unfolding(crate::specs::Several::run_at))]
+#[tactic(auto, unfolding(crate::specs::Several::run_at, crate::specs::Several::run_opening))]
 fn push_run_at(
     alloc: Global,
     out: &mut String,
@@ -105,8 +76,8 @@ fn push_run_at(
     ensures { OnOk result
         (string_bytes out.new ≡ string_bytes out.old ++ run_at down bundle.now judgement.now) }
 {
-    let grid = grid_in(bundle);
-    push_run_opening(out, down)?;
+    let grid = grid_of(bundle.header().net());
+    write!(out, "<g transform=\"translate(0 {down})\">\n")?;
     push_opening(out, grid.width(), grid.height())?;
     push_run_part(alloc, out, bundle, judgement)?;
     out.push_str("</g>\n")
@@ -131,7 +102,7 @@ fn push_runs(
             return Ok(());
         };
         push_run_at(alloc, out, down, run, judgement)?;
-        down += grid_in(run).height();
+        down += grid_of(run.header().net()).height();
         runs = others;
         rest = more;
     }
@@ -153,15 +124,6 @@ fn push_place(out: &mut String, place: Option<usize>) -> Result<(), AllocError>
         None => Ok(()),
         Some(place) => write!(out, " {place}"),
     }
-}
-
-/// Appends which general is convicted, and by which kind of claim.
-#[tactic(auto, unfolding(crate::specs::Several::convicted_words))]
-fn push_convicted_words(out: &mut String, accused: u8, kind: u8) -> Result<(), AllocError>
-    ensures { OnOk result
-        (string_bytes out.new ≡ string_bytes out.old ++ convicted_words accused kind) }
-{
-    write!(out, "general {accused} is convicted by K{kind}")
 }
 
 /// Appends the places of the two runs that a claim is across; nothing for a claim within one run.
@@ -198,6 +160,7 @@ fn kind_across(claim: &Claim) -> u8
 }
 
 /// Appends which general is convicted, by which kind of claim, and across which runs.
+#[tactic(auto, unfolding(crate::specs::Several::convicted_words))]
 fn push_both_words(
     out: &mut String,
     bundles: &[Bundle],
@@ -206,7 +169,9 @@ fn push_both_words(
     ensures { OnOk result (string_bytes out.new
         ≡ string_bytes out.old ++ both_words bundles.now (told_of evidence.now)) }
 {
-    push_convicted_words(out, evidence.accused.get(), kind_across(&evidence.claim))?;
+    let accused = evidence.accused.get();
+    let kind = kind_across(&evidence.claim);
+    write!(out, "general {accused} is convicted by K{kind}")?;
     push_across_words(out, bundles, &evidence.claim)
 }
 
@@ -227,16 +192,8 @@ fn push_across_span(
     out.push_str("</tspan>\n")
 }
 
-/// Appends the beginning of the lines of generals that are convicted across runs.
-#[tactic(auto, unfolding(crate::specs::Several::across_opening))]
-fn push_across_opening(out: &mut String, down: u32) -> Result<(), AllocError>
-    ensures { OnOk result (string_bytes out.new ≡ string_bytes out.old ++ across_opening down) }
-{
-    write!(out, "<text x=\"16\" y=\"{down}\">\n")
-}
-
 /// Appends the lines of the generals that are convicted across runs, at a height, and the end of the text.
-#[tactic(auto, unfolding(crate::specs::Several::across_part))]
+#[tactic(auto, unfolding(crate::specs::Several::across_part, crate::specs::Several::across_opening))]
 fn push_across(
     out: &mut String,
     down: u32,
@@ -246,43 +203,11 @@ fn push_across(
     ensures { OnOk result (string_bytes out.new
         ≡ string_bytes out.old ++ across_part down bundles.now (map told_of across.now)) }
 {
-    push_across_opening(out, down)?;
+    write!(out, "<text x=\"16\" y=\"{down}\">\n")?;
     for evidence in across {
         push_across_span(out, bundles, evidence)?;
     }
     out.push_str("</text>\n</svg>\n")
-}
-
-/// Appends the number of runs as the title of the picture.
-#[tactic(auto, unfolding(crate::specs::Several::several_title))]
-fn push_several_title(out: &mut String, count: usize) -> Result<(), AllocError>
-    ensures { OnOk result (string_bytes out.new ≡ string_bytes out.old ++ several_title count) }
-{
-    write!(out, "<title>campaign of {count} runs</title>\n")
-}
-
-/// Appends the beginning of the page: its size, its style, the heads of arrows for all orders that a run can have, and
-/// as its title the number of runs.
-#[tactic(auto, unfolding(crate::specs::Several::several_front))]
-fn push_several_front(
-    out: &mut String,
-    bundles: &[Bundle],
-    convicted: usize,
-) -> Result<(), AllocError>
-    requires { length bundles.now < 2 ^ 16 }
-    ensures { OnOk result (string_bytes out.new
-        ≡ string_bytes out.old ++ several_front bundles.now convicted) }
-{
-    let height = bottom_of(bundles) + across_height(convicted);
-    let largest = Grid {
-        generals: MOST_GENERALS,
-        orders: MOST_ORDERS,
-        rounds: MOST_ROUNDS,
-    };
-    push_opening(out, widest_of(bundles), height)?;
-    push_style(out)?;
-    push_heads(out, largest)?;
-    push_several_title(out, bundles.len())
 }
 
 /// Returns the picture of a campaign as one SVG text. The pictures that `draw` makes of its bundles and of the
@@ -295,7 +220,7 @@ fn push_several_front(
 /// # Errors
 ///
 /// `AllocError` if memory is refused.
-#[tactic(auto, unfolding(crate::specs::Several::several_picture))]
+#[tactic(auto, unfolding(crate::specs::Several::several_picture, crate::specs::Several::several_front, crate::specs::Several::several_title))]
 pub fn draw_campaign(
     alloc: Global,
     bundles: &[Bundle],
@@ -306,9 +231,19 @@ pub fn draw_campaign(
     ensures { IfOk result (λ v. v.items
         ≡ several_picture bundles.now judgements.now (map told_of across.now)) }
 {
+    let (width, down) = extent_of(bundles);
+    let largest = Grid {
+        generals: MOST_GENERALS,
+        orders: MOST_ORDERS,
+        rounds: MOST_ROUNDS,
+    };
+    let count = bundles.len();
     let mut out = String::new(alloc);
-    push_several_front(&mut out, bundles, across.len())?;
+    push_opening(&mut out, width, down + across_height(across.len()))?;
+    push_style(&mut out)?;
+    push_heads(&mut out, largest)?;
+    write!(out, "<title>campaign of {count} runs</title>\n")?;
     push_runs(alloc, &mut out, bundles, judgements)?;
-    push_across(&mut out, bottom_of(bundles), bundles, across)?;
+    push_across(&mut out, down, bundles, across)?;
     Ok(out.into_bytes())
 }

@@ -1,6 +1,6 @@
 //! Which messages a picture draws.
 ghost use Rattle.std.specs.Prelude.{◌≡◌, IfOk};
-ghost use Rattle.gen_draw.specs.Telling.{arrows_between, sender_arrow, tells};
+ghost use Rattle.gen_draw.specs.Telling.{arrows_between, tells};
 
 use crate::arrow::{Arrow, ToldBy};
 use gen_net::Message;
@@ -18,23 +18,8 @@ fn tells(messages: &[Message], message: &Message) -> bool
     })
 }
 
-/// Returns the arrow of a message that was sent. Both logs have it if it is among the received messages, else the
-/// sender's alone.
-fn sender_arrow(received: &[Message], message: &Message) -> Arrow
-    ensures { result ≡ sender_arrow received.now message.now }
-{
-    let told = if tells(received, message) {
-        ToldBy::Both
-    } else {
-        ToldBy::Sender
-    };
-    Arrow {
-        message: *message,
-        told,
-    }
-}
-
-/// Returns the arrows of the messages that were sent, and then of those that were received alone.
+/// Returns the arrows of the messages that were sent, and then of those that were received alone. Both logs have a
+/// message that was sent if it is among the received messages, else the sender's alone.
 pub fn arrows_between(
     alloc: Global,
     sent: &[Message],
@@ -44,7 +29,15 @@ pub fn arrows_between(
 {
     let mut arrows = Vec::new(alloc);
     for message in sent {
-        arrows.push(sender_arrow(received, message))?;
+        let told = if tells(received, message) {
+            ToldBy::Both
+        } else {
+            ToldBy::Sender
+        };
+        arrows.push(Arrow {
+            message: *message,
+            told,
+        })?;
     }
     for message in received {
         if !tells(sent, message) {

@@ -1,5 +1,6 @@
 pub mod BundleLengths
 pub mod CampaignLengths
+mod Chains
 pub mod EvidenceLengths
 mod Found
 pub mod Lengths

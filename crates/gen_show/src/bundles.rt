@@ -1,6 +1,6 @@
 //! Bundles as lines.
 ghost use Rattle.std.specs.Prelude.{◌≡◌, ◌+◌, ◌<◌, ◌^◌, ◌++◌, IfOk, OnOk, string_bytes, sum_by};
-ghost use Rattle.gen_show.specs.BundleText.{bundle_front_length, bundle_length, bundle_lines, exhibit_length, exhibit_lines, place_line, run_lines};
+ghost use Rattle.gen_show.specs.BundleText.{bundle_front_length, bundle_length, bundle_lines, exhibit_length, exhibit_lines, run_lines};
 
 use crate::headers::push_header;
 use crate::logs::push_log;
@@ -88,15 +88,9 @@ pub fn push_bundle(
     Ok(end)
 }
 
-/// Appends the line before the bundle of a run of a campaign.
+/// Appends the lines of the bundles of a campaign's runs, of which the first begins at this byte. Before those of each
+/// bundle stands a line with its place and the byte at which it begins.
 #[tactic(auto, unfolding(crate::specs::BundleText::place_line))]
-fn push_place(out: &mut String, place: usize, at: usize) -> Result<(), AllocError>
-    ensures { OnOk result (string_bytes out.new ≡ string_bytes out.old ++ place_line place at) }
-{
-    write!(out, "place {place} byte {at}\n")
-}
-
-/// Appends the lines of the bundles of a campaign's runs, of which the first begins at this byte.
 pub fn push_runs(
     alloc: Global,
     out: &mut String,
@@ -109,7 +103,7 @@ pub fn push_runs(
 {
     let mut at = start;
     for place in 0..bundles.len() {
-        push_place(out, place, at)?;
+        write!(out, "place {place} byte {at}\n")?;
         at = push_bundle(alloc, out, at, &bundles[place])?;
     }
     Ok(())

@@ -2,7 +2,7 @@
 ghost use Rattle.std.specs.Prelude.{◌≡◌, ◌<◌, ◌+◌, ◌^◌, ◌++◌, IfOk, OnOk, length, string_bytes};
 ghost use Rattle.gen_convict.specs.Evidence.{told_of};
 ghost use Rattle.gen_convict.specs.Told.{told};
-ghost use Rattle.gen_show.specs.EvidenceText.{HasRoom, accused_line, claim_lines, claim_log_at, departs_line, evidence_lines, holds_lines, kind_line, order_line, text_line};
+ghost use Rattle.gen_show.specs.EvidenceText.{HasRoom, accused_line, claim_lines, claim_log_at, evidence_lines, kind_line, order_line, text_line};
 
 use crate::entries::push_signed;
 use crate::headers::push_header;
@@ -100,15 +100,8 @@ fn push_kind(out: &mut String, claim: &Claim) -> Result<(), AllocError>
     }
 }
 
-/// Appends the line of the entry at which a log is said to depart.
-#[tactic(auto, unfolding(crate::specs::EvidenceText::departs_line))]
-fn push_departs(out: &mut String, entry: u32) -> Result<(), AllocError>
-    ensures { OnOk result (string_bytes out.new ≡ string_bytes out.old ++ departs_line entry) }
-{
-    write!(out, "departs entry {entry}\n")
-}
-
 /// Appends the lines of a claim.
+#[tactic(auto, unfolding(crate::specs::EvidenceText::departs_line))]
 fn push_claim(
     alloc: Global,
     out: &mut String,
@@ -137,24 +130,14 @@ fn push_claim(
         Claim::Departing { log, entry } => {
             let at = claim_log_at(alloc, header, log.as_slice())?;
             push_log(alloc, out, header, accused, at, log.as_slice())?;
-            push_departs(out, *entry)
+            let entry = *entry;
+            write!(out, "departs entry {entry}\n")
         }
         Claim::Across { first, second } => {
             push_text(alloc, out, "first", &first.text.text)?;
             push_header(alloc, out, "header", &second.header)?;
             push_text(alloc, out, "second", &second.text.text)
         }
-    }
-}
-
-/// Appends the line that says whether evidence holds, and the end.
-fn push_holds(out: &mut String, holds: bool) -> Result<(), AllocError>
-    ensures { OnOk result (string_bytes out.new ≡ string_bytes out.old ++ holds_lines holds) }
-{
-    if holds {
-        out.push_str("evidence holds\nend\n")
-    } else {
-        out.push_str("evidence fails\nend\n")
     }
 }
 
@@ -175,5 +158,9 @@ pub fn push_evidence(
     push_accused(alloc, out, header, evidence.accused)?;
     push_kind(out, &evidence.claim)?;
     push_claim(alloc, out, header, evidence.accused, &evidence.claim)?;
-    push_holds(out, holds)
+    if holds {
+        out.push_str("evidence holds\nend\n")
+    } else {
+        out.push_str("evidence fails\nend\n")
+    }
 }

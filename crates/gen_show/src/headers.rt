@@ -1,7 +1,7 @@
 //! Headers as lines.
 ghost use Rattle.std.specs.Prelude.{◌≡◌, ◌++◌, OnOk, string_bytes};
 ghost use Rattle.std.specs.List.{flat_map};
-ghost use Rattle.gen_show.specs.HeaderText.{edge_line, format_lines, header_lines, number_lines, root_line, root_lines, version_number};
+ghost use Rattle.gen_show.specs.HeaderText.{edge_line, format_lines, header_lines, number_lines, root_lines, version_number};
 
 use gen_net::{Header, Net, VERSION_ONE, VERSION_TWO, Version};
 use gen_types::GeneralNo;
@@ -66,28 +66,15 @@ fn push_edges(out: &mut String, edges: &[(GeneralNo, GeneralNo)]) -> Result<(), 
     Ok(())
 }
 
-/// Appends the line of the root of a general.
-#[tactic(auto, unfolding(crate::specs::HeaderText::root_line))]
-fn push_root(
-    alloc: Global,
-    out: &mut String,
-    general: usize,
-    root: &[u8; 32],
-) -> Result<(), AllocError>
-    ensures { OnOk result
-        (string_bytes out.new ≡ string_bytes out.old ++ root_line general root.now) }
-{
-    let digits = hex::encode(alloc, *root)?;
-    write!(out, "root {general} {digits}\n")
-}
-
 /// Appends the lines of the roots of all generals.
+#[tactic(auto, unfolding(crate::specs::HeaderText::root_line))]
 fn push_roots(alloc: Global, out: &mut String, roots: &[[u8; 32]]) -> Result<(), AllocError>
     ensures { OnOk result
         (string_bytes out.new ≡ string_bytes out.old ++ root_lines 0 roots.now) }
 {
     for general in 0..roots.len() {
-        push_root(alloc, out, general, &roots[general])?;
+        let digits = hex::encode(alloc, roots[general])?;
+        write!(out, "root {general} {digits}\n")?;
     }
     Ok(())
 }

@@ -1,7 +1,7 @@
 //! Logs as lines.
 ghost use Rattle.std.specs.Prelude.{◌≡◌, ◌+◌, ◌<◌, ◌^◌, ◌++◌, Ok, Err, OnOk, length, string_bytes};
 ghost use Rattle.gen_log.specs.Texts.{IsTextOf};
-ghost use Rattle.gen_show.specs.LogText.{head_line, log_line, log_lines, reading_lines, says_line, unreadable_line};
+ghost use Rattle.gen_show.specs.LogText.{log_lines, reading_lines, says_line, unreadable_line};
 
 use crate::entries::push_entries;
 use crate::faults::push_log_fault;
@@ -12,21 +12,6 @@ use std::alloc::{AllocError, Global};
 
 /// The bytes before the entries of a log.
 pub const LOG_FRONT: usize = 40;
-
-/// Appends the first line of what is shown as the log of a general.
-#[tactic(auto, unfolding(crate::specs::LogText::log_line))]
-fn push_log_line(
-    out: &mut String,
-    general: GeneralNo,
-    at: usize,
-    size: usize,
-) -> Result<(), AllocError>
-    ensures { OnOk result
-        (string_bytes out.new ≡ string_bytes out.old ++ log_line general at size) }
-{
-    let of = general.get();
-    write!(out, "log of {of} byte {at} length {size}\n")
-}
 
 /// Appends the line of a log that reads.
 #[tactic(auto, unfolding(crate::specs::LogText::says_line))]
@@ -45,15 +30,6 @@ fn push_says(
     write!(out, "says of {of} run {run} entries {count}\n")
 }
 
-/// Appends the line behind the entries of a log.
-#[tactic(auto, unfolding(crate::specs::LogText::head_line))]
-fn push_head(out: &mut String, general: GeneralNo, at: usize) -> Result<(), AllocError>
-    ensures { OnOk result (string_bytes out.new ≡ string_bytes out.old ++ head_line general at) }
-{
-    let of = general.get();
-    write!(out, "head of {of} byte {at}\n")
-}
-
 /// Appends the line of bytes that are no log.
 #[tactic(auto, unfolding(crate::specs::LogText::unreadable_line))]
 fn push_unreadable(out: &mut String, general: GeneralNo, fault: LogFault) -> Result<(), AllocError>
@@ -67,7 +43,7 @@ fn push_unreadable(out: &mut String, general: GeneralNo, fault: LogFault) -> Res
 }
 
 /// Appends the lines of a log that was read from these bytes, which begin at this byte of a file.
-#[tactic(auto, using(crate::proofs::Lengths::entries_within))]
+#[tactic(auto, using(crate::proofs::Lengths::entries_within), unfolding(crate::specs::LogText::head_line))]
 fn push_read(
     alloc: Global,
     out: &mut String,
@@ -85,7 +61,8 @@ fn push_read(
     let _count = bytes.len();
     push_says(alloc, out, general, log)?;
     let end = push_entries(out, general, at + LOG_FRONT, log.entries())?;
-    push_head(out, general, end)
+    let of = general.get();
+    write!(out, "head of {of} byte {end}\n")
 }
 
 /// Appends the lines of bytes that begin at this byte of a file and are shown as the log of a general in the run of a
@@ -94,7 +71,7 @@ fn push_read(
 /// # Errors
 ///
 /// `AllocError` where memory is refused; then what stands in `out` isn't said.
-#[tactic(auto, unfolding(crate::specs::LogText::log_lines))]
+#[tactic(auto, unfolding(crate::specs::LogText::log_lines, crate::specs::LogText::log_line))]
 pub fn push_log(
     alloc: Global,
     out: &mut String,
@@ -107,7 +84,9 @@ pub fn push_log(
     ensures { OnOk result (string_bytes out.new
         ≡ string_bytes out.old ++ log_lines header.now general at bytes.now) }
 {
-    push_log_line(out, general, at, bytes.len())?;
+    let of = general.get();
+    let size = bytes.len();
+    write!(out, "log of {of} byte {at} length {size}\n")?;
     match read_log(alloc, header, bytes) {
         Ok(log) => push_read(alloc, out, general, at, &log, bytes),
         Err(ReadError::Memory) => Err(AllocError),

@@ -1,6 +1,6 @@
 //! Rows of a table, with the fields of their forms.
 ghost use Rattle.std.specs.Prelude.{◌≡◌, ◌==◌, ◌++◌, OnOk, IfOk, map, option_map};
-ghost use Rattle.std.specs.List.{find, flat_map, slice_split};
+ghost use Rattle.std.specs.List.{find, slice_split};
 ghost use Rattle.std.specs.Str.{bytes_eq};
 ghost use Rattle.gen_show.specs.Rows.{row_in, rows_in};
 ghost use Rattle.gen_show.specs.Rows as specified;
@@ -54,25 +54,17 @@ fn push_row_in(alloc: Global, rows: &mut Vec<Row>, line: &'static [u8]) -> Resul
     }
 }
 
-/// Returns the rows that the lines of a table have.
-fn rows_of_lines(alloc: Global, lines: &[&'static [u8]]) -> Result<Vec<Row>, AllocError>
-    ensures { IfOk result (λ v. map row_shown v.items
-        ≡ flat_map row_in (map (λ x. x.now) lines.now)) }
-{
-    let mut rows = Vec::new(alloc);
-    for line in lines {
-        push_row_in(alloc, &mut rows, *line)?;
-    }
-    Ok(rows)
-}
-
 /// Returns the rows of a table.
 #[tactic(auto, unfolding(crate::specs::Rows::rows_in))]
 fn split_rows(alloc: Global, table: &'static str) -> Result<Vec<Row>, AllocError>
     ensures { IfOk result (λ v. map row_shown v.items ≡ rows_in table.now) }
 {
     let lines = split_by(alloc, table.as_bytes(), b'\n')?;
-    rows_of_lines(alloc, &lines)
+    let mut rows = Vec::new(alloc);
+    for line in &lines {
+        push_row_in(alloc, &mut rows, *line)?;
+    }
+    Ok(rows)
 }
 
 /// Returns the rows of this project's table.

@@ -205,18 +205,6 @@ fn show_header(alloc: Global, input: &[u8]) -> Result<Shown, AllocError>
     }
 }
 
-/// Returns the lines of what is read as a file of this kind.
-fn show_as(alloc: Global, kind: FileKind, input: &[u8]) -> Result<Shown, AllocError>
-    ensures text { IfOk result (λ s. IsTextAs kind input.now s.text.items) }
-    ensures whole { IfOk result (λ s. s.whole ≡ is_whole_as kind input.now) }
-{
-    match kind {
-        FileKind::OfHeader => show_header(alloc, input),
-        FileKind::OfEvidence => show_evidence(alloc, input),
-        FileKind::OfCampaign => show_campaign(alloc, input),
-    }
-}
-
 /// Returns what a file is, as lines of text: a header alone, evidence, a bundle, or the bundles of several runs. A file
 /// whose first byte is `01` or `02` is read as a header, one that begins with `SME1` or `SME2` as evidence, and any
 /// other as what is shown of a campaign. What doesn't read is shown up to its header, and its last line is its fault.
@@ -230,5 +218,9 @@ pub fn show(alloc: Global, input: &[u8]) -> Result<Shown, AllocError>
     // The bytes read as a whole file of their kind if and only if this is said.
     ensures whole { IfOk result (λ s. s.whole ≡ is_whole_as (file_kind input.now) input.now) }
 {
-    show_as(alloc, file_kind(input), input)
+    match file_kind(input) {
+        FileKind::OfHeader => show_header(alloc, input),
+        FileKind::OfEvidence => show_evidence(alloc, input),
+        FileKind::OfCampaign => show_campaign(alloc, input),
+    }
 }

@@ -8,12 +8,12 @@ use Rattle.gen_draw.proofs.arrows.push_arrow.Goals as goal
 pub returns : goal.returns
 unfolding arrow_line
 returns c =
-    rw (← c.get-from.ensures.value, ← c.get-to.ensures.value, ← c.get-order.ensures.value, ← c.round_of-round.ensures, ← c.generals.ensures, ← c.middle.ensures.value, ← c.middle_of.ensures.value)
+    rw (← c.get-from.ensures.value, ← c.get-to.ensures.value, ← c.get-order.ensures.value, ← c.len-round.ensures.length, ← c.generals.ensures, ← c.middle.ensures.value, ← c.middle_of.ensures.value)
     (six _ (string_bytes c.args.out.now)
-    (arrow_opening c.args.arrow.now.told c.get-from.result c.get-to.result c.round_of-round.result c.get-order.result)
+    (arrow_opening c.args.arrow.now.told c.get-from.result c.get-to.result c.len-round.result c.get-order.result)
     (path_words c.generals.result.now)
     (told_words c.args.arrow.now.told c.get-from.result c.get-to.result)
-    (message_stroke c.args.grid c.get-from.result c.get-to.result c.round_of-round.result c.get-order.result)
+    (message_stroke c.args.grid c.get-from.result c.get-to.result c.len-round.result c.get-order.result)
     (words_at c.middle.result c.middle_of.result)
     (decimal c.get-order.result ++ codes "</text></g>\n")
     _ _ _ _ _ _ c.in_ok-push_arrow_opening.ensures c.in_ok-push_path.ensures c.in_ok-push_told.ensures

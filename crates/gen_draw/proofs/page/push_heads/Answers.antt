@@ -4,4 +4,5 @@ use Rattle.gen_draw.proofs.Ranges.{one_more}
 use Rattle.gen_draw.proofs.page.push_heads.Goals as goal
 
 pub loop-order-preserved : goal.loop-order-preserved
-loop-order-preserved c = one_more head_of 0 _ _ _ _ _ (omega arith) c.loop-order.invariant c.in_ok-push_head.ensures
+unfolding head_of
+loop-order-preserved c = one_more head_of 0 c.loop-order.order-counter c.loop-order.order-counter _ _ _ (omega arith) c.loop-order.invariant c.in_ok-write.ensures.bytes

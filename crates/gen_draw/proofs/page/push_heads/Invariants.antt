@@ -4,4 +4,4 @@ use Rattle.gen_draw.specs.Shapes.{head_of}
 use Rattle.gen_draw.proofs.page.push_heads.Given as goal
 
 abbrev pub invariant-loop-order : goal.invariant-loop-order
-invariant-loop-order l = string_bytes l.out ≡ string_bytes l.fn.out ++ flat_map head_of (range_with_len 0 l.order)
+invariant-loop-order l = string_bytes l.out ≡ string_bytes l.fn.out ++ flat_map head_of (range_with_len 0 l.order-counter)

@@ -4,4 +4,4 @@ use Rattle.gen_draw.specs.Page.{legend_line}
 use Rattle.gen_draw.proofs.page.push_legends.Given as goal
 
 abbrev pub invariant-loop-order : goal.invariant-loop-order
-invariant-loop-order l = string_bytes l.out ≡ string_bytes l.fn.out ++ flat_map (legend_line l.grid.generals) (range_with_len 0 l.order)
+invariant-loop-order l = string_bytes l.out ≡ string_bytes l.fn.out ++ flat_map (legend_line l.grid.generals) (range_with_len 0 l.order-counter)
