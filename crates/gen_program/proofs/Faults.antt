@@ -144,8 +144,9 @@ refused words given choices fault gives known none is =
     (λ e. (gives.0, at BadCapacity e)) (λ e. (gives.0, at BadWorkers e)) (λ e. (gives.0, at BadGeneral e)) (λ e. (gives.0, at BadSlot e)) (λ e. (gives.0, at BadRun e)) (λ e. (gives.0, at BadFaulty e)) (λ e. (gives.0, at NoCommand e)) in
     subst (λ (f : WordsFault). IsFaultOf words f) (sym (is ∙ ap (refusal_in given) known)) (any refl)
 
-pub is_given : (o : Option (Text × List Row)) (p : Text × List Row) (given : GivenCommand) → o ≡ Some p → IsGiven p given → IsGivenBy o (Some given)
-is_given o p given found is = rw found is
+-- this is the command that words name, if it is the one that was found
+pub is_given : (o named : Option (Text × List Row)) (p : Text × List Row) (given : GivenCommand) → o ≡ Some p → o ≡ named → IsGiven p given → IsGivenBy named (Some given)
+is_given o named p given found same is = subst (λ (x : Option (Text × List Row)). IsGivenBy x (Some given)) (sym found ∙ same) is
 
 abbrev paired : {X : Type 0} → (X → Text) → (X → List Row) → X → Text × List Row
 paired f g b = (f b, g b)

@@ -1,6 +1,6 @@
 //! The command line of the program.
 ghost use Rattle.std.specs.Prelude.{◌≡◌, IfOk, false};
-ghost use Rattle.clap.specs.Words.{app_of, new_app, rule_of};
+ghost use Rattle.clap.specs.Words.{app_of, rule_of};
 ghost use Rattle.clap.specs.declared.builder.command.Command.TheViews.{out-Command as fields_of};
 ghost use Rattle.gen_program.specs.CommandLine as lines;
 
@@ -160,215 +160,129 @@ fn with_verdict<'a>(alloc: Global, command: CommandBuilder<'a>) -> CommandBuilde
         .arg(file_argument(alloc))
 }
 
-/// Returns the command `decide`, which decides a scenario.
-fn decide_command<'a>(alloc: Global) -> CommandBuilder<'a>
-    ensures app { result.refused ≡ false → app_of result.command ≡ lines.decide }
-    ensures local { (fields_of result.command).has_globals ≡ false }
+/// Returns the command line with the commands that read a scenario or the text of a campaign: `decide`, `run`, `judge` and
+/// `campaign`.
+fn with_scenarios<'a>(alloc: Global, tool: CommandBuilder<'a>) -> CommandBuilder<'a>
+    ensures kept { result.refused ≡ false → tool.entry.refused ≡ false }
+    ensures app { result.refused ≡ false → app_of tool.entry.command ≡ lines.bare
+        → app_of result.command ≡ lines.with_campaign }
 {
     let about = "Reads a scenario and prints what each general decides";
-    CommandBuilder::new(alloc, "decide", about)
+    let decide = CommandBuilder::new(alloc, "decide", about)
         .arg(flag_named(alloc, "json", ONE_OBJECT))
-        .arg(file_argument(alloc))
-}
-
-/// Returns the command `run`, which runs a scenario.
-fn run_command<'a>(alloc: Global) -> CommandBuilder<'a>
-    ensures app { result.refused ≡ false → app_of result.command ≡ lines.run }
-    ensures local { (fields_of result.command).has_globals ≡ false }
-{
+        .arg(file_argument(alloc));
     let about = "Reads a scenario with a seed, runs it and writes its bundle";
-    CommandBuilder::new(alloc, "run", about)
+    let run = CommandBuilder::new(alloc, "run", about)
         .arg(capacity_option(alloc))
         .arg(print_run_flag(alloc))
-        .arg(file_argument(alloc))
-}
-
-/// Returns the command `judge`, which runs a scenario and audits it.
-fn judge_command<'a>(alloc: Global) -> CommandBuilder<'a>
-    ensures app { result.refused ≡ false → app_of result.command ≡ lines.judge }
-    ensures local { (fields_of result.command).has_globals ≡ false }
-{
+        .arg(file_argument(alloc));
     let about =
         "Reads a scenario with a seed, runs it while its logs are audited, and prints the verdict";
-    let command = CommandBuilder::new(alloc, "judge", about)
+    let judge = CommandBuilder::new(alloc, "judge", about)
         .arg(capacity_option(alloc))
         .arg(workers_option(alloc));
-    with_verdict(alloc, command)
-}
-
-/// Returns the command `campaign`, which runs a campaign.
-fn campaign_command<'a>(alloc: Global) -> CommandBuilder<'a>
-    ensures app { result.refused ≡ false → app_of result.command ≡ lines.campaign }
-    ensures local { (fields_of result.command).has_globals ≡ false }
-{
     let about = "Reads the text of a campaign, runs it and writes the bundles of its runs";
-    CommandBuilder::new(alloc, "campaign", about)
+    let campaign = CommandBuilder::new(alloc, "campaign", about)
         .arg(capacity_option(alloc))
         .arg(print_run_flag(alloc))
-        .arg(file_argument(alloc))
+        .arg(file_argument(alloc));
+    tool.subcommand(decide)
+        .subcommand(run)
+        .subcommand(with_verdict(alloc, judge))
+        .subcommand(campaign)
 }
 
-/// Returns the command `audit`, which audits a bundle or a campaign.
-fn audit_command<'a>(alloc: Global) -> CommandBuilder<'a>
-    ensures app { result.refused ≡ false → app_of result.command ≡ lines.audit }
-    ensures local { (fields_of result.command).has_globals ≡ false }
+/// Returns the command line with the commands that read a bundle, evidence or a file of another kind: `audit`, `draw`,
+/// `accuse`, `evidence` and `show`.
+fn with_bundles<'a>(alloc: Global, tool: CommandBuilder<'a>) -> CommandBuilder<'a>
+    ensures kept { result.refused ≡ false → tool.entry.refused ≡ false }
+    ensures app { result.refused ≡ false → app_of tool.entry.command ≡ lines.with_campaign
+        → app_of result.command ≡ lines.with_show }
 {
     let about = "Reads a bundle of logs, or a campaign, and prints whether a run explains them";
-    let command = with_asking(alloc, CommandBuilder::new(alloc, "audit", about));
-    with_verdict(alloc, command)
-}
-
-/// Returns the command `draw`, which draws a bundle or a campaign.
-fn draw_command<'a>(alloc: Global) -> CommandBuilder<'a>
-    ensures app { result.refused ≡ false → app_of result.command ≡ lines.draw }
-    ensures local { (fields_of result.command).has_globals ≡ false }
-{
+    let audit = with_asking(alloc, CommandBuilder::new(alloc, "audit", about));
     let about = "Reads a bundle of logs, or a campaign, and writes its picture, an SVG text";
-    with_asking(alloc, CommandBuilder::new(alloc, "draw", about)).arg(file_argument(alloc))
-}
-
-/// Returns the command `accuse`, which accuses a general.
-fn accuse_command<'a>(alloc: Global) -> CommandBuilder<'a>
-    ensures app { result.refused ≡ false → app_of result.command ≡ lines.accuse }
-    ensures local { (fields_of result.command).has_globals ≡ false }
-{
+    let draw = with_asking(alloc, CommandBuilder::new(alloc, "draw", about));
     let about = "Reads a bundle or a campaign and writes the evidence against a general";
-    CommandBuilder::new(alloc, "accuse", about)
+    let accuse = CommandBuilder::new(alloc, "accuse", about)
         .arg(option_named(alloc, "general", "G", "Who is accused, 0 to 15").required(true))
         .arg(asked_option(alloc))
-        .arg(file_argument(alloc))
-}
-
-/// Returns the command `evidence`, which checks evidence.
-fn evidence_command<'a>(alloc: Global) -> CommandBuilder<'a>
-    ensures app { result.refused ≡ false → app_of result.command ≡ lines.evidence }
-    ensures local { (fields_of result.command).has_globals ≡ false }
-{
+        .arg(file_argument(alloc));
     let about = "Reads evidence and prints whether it holds";
-    CommandBuilder::new(alloc, "evidence", about)
+    let evidence = CommandBuilder::new(alloc, "evidence", about)
         .arg(asked_option(alloc))
         .arg(flag_named(alloc, "json", ONE_OBJECT))
-        .arg(file_argument(alloc))
-}
-
-/// Returns the command `show`, which says what a file is.
-fn show_command<'a>(alloc: Global) -> CommandBuilder<'a>
-    ensures app { result.refused ≡ false → app_of result.command ≡ lines.show }
-    ensures local { (fields_of result.command).has_globals ≡ false }
-{
+        .arg(file_argument(alloc));
     let about =
         "Reads a bundle, a campaign, evidence or a header, and prints what it says, a line for each fact";
-    CommandBuilder::new(alloc, "show", about)
+    let show = CommandBuilder::new(alloc, "show", about)
         .arg(asked_option(alloc))
         .arg(flag_named(alloc, "json", OBJECT_IN_EACH_LINE))
-        .arg(file_argument(alloc))
+        .arg(file_argument(alloc));
+    tool.subcommand(with_verdict(alloc, audit))
+        .subcommand(draw.arg(file_argument(alloc)))
+        .subcommand(accuse)
+        .subcommand(evidence)
+        .subcommand(show)
 }
 
-/// Returns the command `root`, which makes the root of a seed.
-fn root_command<'a>(alloc: Global) -> CommandBuilder<'a>
-    ensures app { result.refused ≡ false → app_of result.command ≡ lines.root }
-    ensures local { (fields_of result.command).has_globals ≡ false }
+/// Returns the command line with the commands that prepare a run or a dispute, `root`, `header`, `bundle` and `answer`,
+/// and those that tell what a text means, `explain` and `words`.
+fn with_preparing<'a>(alloc: Global, tool: CommandBuilder<'a>) -> CommandBuilder<'a>
+    ensures kept { result.refused ≡ false → tool.entry.refused ≡ false }
+    ensures app { result.refused ≡ false → app_of tool.entry.command ≡ lines.with_show
+        → app_of result.command ≡ lines.tool }
 {
     let about = "Reads a seed of 32 bytes and prints the root of its keys";
     let tall = "Makes the tree of 64 leaves, for runs of version 2";
-    CommandBuilder::new(alloc, "root", about)
+    let root = CommandBuilder::new(alloc, "root", about)
         .arg(flag_named(alloc, "tall", tall))
-        .arg(file_argument(alloc))
-}
-
-/// Returns the command `header`, which makes a header of its text.
-fn header_command<'a>(alloc: Global) -> CommandBuilder<'a>
-    ensures app { result.refused ≡ false → app_of result.command ≡ lines.header }
-    ensures local { (fields_of result.command).has_globals ≡ false }
-{
+        .arg(file_argument(alloc));
     let about = "Reads the text of a header, with a root for each general, and writes the header";
     let slot = "Makes a header of version 2 in this slot, 0 to 3";
-    CommandBuilder::new(alloc, "header", about)
+    let header = CommandBuilder::new(alloc, "header", about)
         .arg(option_named(alloc, "slot", "U", slot))
         .arg(print_run_flag(alloc))
-        .arg(file_argument(alloc))
-}
-
-/// Returns the command `bundle`, which joins a header and logs.
-fn bundle_command<'a>(alloc: Global) -> CommandBuilder<'a>
-    ensures app { result.refused ≡ false → app_of result.command ≡ lines.bundle }
-    ensures local { (fields_of result.command).has_globals ≡ false }
-{
+        .arg(file_argument(alloc));
     let about = "Reads a header and logs, each from its file, and writes their bundle";
     let logs = "The number of a general, and the file of its log; as often as there are logs";
-    CommandBuilder::new(alloc, "bundle", about)
+    let bundle = CommandBuilder::new(alloc, "bundle", about)
         .arg(faulty_option(alloc))
         .arg(word_named(alloc, "file", "HEADER", "The file of the header").required(true))
-        .arg(word_named(alloc, "log", "G=LOG", logs).action(ArgAction::Append))
-}
-
-/// Returns the command `answer`, which answers evidence by a log.
-fn answer_command<'a>(alloc: Global) -> CommandBuilder<'a>
-    ensures app { result.refused ≡ false → app_of result.command ≡ lines.answer }
-    ensures local { (fields_of result.command).has_globals ≡ false }
-{
+        .arg(word_named(alloc, "log", "G=LOG", logs).action(ArgAction::Append));
     let about = "Reads evidence and a log of the accused, and prints what the log answers";
     let log = "The file of the log that the accused kept";
-    CommandBuilder::new(alloc, "answer", about)
+    let answer = CommandBuilder::new(alloc, "answer", about)
         .arg(word_named(alloc, "file", "EVIDENCE", "The file of the evidence").required(true))
-        .arg(word_named(alloc, "log", "LOG", log).required(true))
-}
-
-/// Returns the command `explain`, which says what a name means.
-fn explain_command<'a>(alloc: Global) -> CommandBuilder<'a>
-    ensures app { result.refused ≡ false → app_of result.command ≡ lines.explain }
-    ensures local { (fields_of result.command).has_globals ≡ false }
-{
+        .arg(word_named(alloc, "log", "LOG", log).required(true));
     let about = "Prints what a name means that stands in an answer; reads no input";
     let name =
         "A fault, finding, conviction, verdict or status, as N8, K2, P6, 'P9 S3', agreed or 'status 3'";
-    CommandBuilder::new(alloc, "explain", about).arg(word_named(
-        alloc, "file", "NAME", name,
-    ).required(true))
-}
-
-/// Returns the command `words`, which says what the lines of a text mean.
-fn words_command<'a>(alloc: Global) -> CommandBuilder<'a>
-    ensures app { result.refused ≡ false → app_of result.command ≡ lines.words }
-    ensures local { (fields_of result.command).has_globals ≡ false }
-{
+    let name = word_named(alloc, "file", "NAME", name).required(true);
+    let explain = CommandBuilder::new(alloc, "explain", about).arg(name);
     let about =
         "Reads a text of decisions or of a verdict, and prints it with what each line means";
-    CommandBuilder::new(alloc, "words", about).arg(file_argument(alloc))
-}
-
-/// Returns the command line without its subcommands. One of them is required.
-fn bare_command<'a>(alloc: Global) -> Command<'a>
-    ensures { app_of result ≡ lines.bare }
-{
-    Command::new(alloc, "sm_tool")
-        .about("Runs and audits signed Byzantine agreement")
-        .version("0.2.0")
-        .after_help(MORE)
-        .subcommand_required(true)
+    let words = CommandBuilder::new(alloc, "words", about).arg(file_argument(alloc));
+    tool.subcommand(root)
+        .subcommand(header)
+        .subcommand(bundle)
+        .subcommand(answer)
+        .subcommand(explain)
+        .subcommand(words)
 }
 
 /// Returns the command line of the program, with all its commands: those that read a scenario or a campaign, those that
-/// read a bundle, evidence or a file, those that prepare a run or a dispute, and those that tell what a text means. It
-/// fails only if memory is refused.
+/// read a bundle, evidence or a file, those that prepare a run or a dispute, and those that tell what a text means. One
+/// of them is required. It fails only if memory is refused.
 pub fn tool_command<'a>(alloc: Global) -> Result<Command<'a>, AllocError>
     ensures { IfOk result (λ c. app_of c ≡ lines.tool) }
 {
-    CommandBuilder::of(alloc, bare_command(alloc))
-        .subcommand(decide_command(alloc))
-        .subcommand(run_command(alloc))
-        .subcommand(judge_command(alloc))
-        .subcommand(campaign_command(alloc))
-        .subcommand(audit_command(alloc))
-        .subcommand(draw_command(alloc))
-        .subcommand(accuse_command(alloc))
-        .subcommand(evidence_command(alloc))
-        .subcommand(show_command(alloc))
-        .subcommand(root_command(alloc))
-        .subcommand(header_command(alloc))
-        .subcommand(bundle_command(alloc))
-        .subcommand(answer_command(alloc))
-        .subcommand(explain_command(alloc))
-        .subcommand(words_command(alloc))
-        .finish()
+    let bare = Command::new(alloc, "sm_tool")
+        .about("Runs and audits signed Byzantine agreement")
+        .version("0.2.0")
+        .after_help(MORE)
+        .subcommand_required(true);
+    let tool = with_scenarios(alloc, CommandBuilder::of(alloc, bare));
+    let tool = with_bundles(alloc, tool);
+    with_preparing(alloc, tool).finish()
 }

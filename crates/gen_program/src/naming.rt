@@ -18,29 +18,23 @@ pub(crate) fn do_and_name<R: AllocGlobal + Eprint + Threads + Wait + Sync, S: Re
 {
     let mut text = Vec::new(rt.alloc());
     match do_job(rt, rt.alloc(), *job, reader, &mut text) {
-        JobEnd::Done => write_named(rt, text, writer),
+        JobEnd::Done => {}
         // Only memory can be refused to what is written into memory.
-        JobEnd::Failed(JobFault::Write) => JobEnd::Failed(JobFault::Memory),
-        end => end,
+        JobEnd::Failed(JobFault::Write) => return JobEnd::Failed(JobFault::Memory),
+        end => return end,
     }
-}
-
-/// Writes bytes, and says in a line on standard error of which runs they are.
-fn write_named<R: AllocGlobal + Eprint, W: Write>(rt: &R, text: Vec<u8>, writer: &mut W) -> JobEnd {
-    match name_file(rt.alloc(), &text) {
-        Ok(names) => {
-            let output = Output {
-                text,
-                negative: false,
-            };
-            let end = write_output(writer, &output);
-            if let (JobEnd::Done, Some(names)) = (end, &names) {
-                if let Ok(line) = str::from_utf8(names) {
-                    let _ = eprintln!(rt; "{line}");
-                }
-            }
-            end
+    let Ok(names) = name_file(rt.alloc(), &text) else {
+        return JobEnd::Failed(JobFault::Memory);
+    };
+    let output = Output {
+        text,
+        negative: false,
+    };
+    let end = write_output(writer, &output);
+    if let (JobEnd::Done, Some(names)) = (end, &names) {
+        if let Ok(line) = str::from_utf8(names) {
+            let _ = eprintln!(rt; "{line}");
         }
-        Err(_) => JobEnd::Failed(JobFault::Memory),
     }
+    end
 }

@@ -3,7 +3,7 @@ ghost use Rattle.std.specs.Prelude.{◌≡◌, IfOk, map, string_bytes};
 ghost use Rattle.gen_jobs.specs.Ends.{status_of};
 ghost use Rattle.gen_jobs.specs.Ranges.{IsInRange};
 ghost use Rattle.gen_jobs.specs.declared.ends.JobEnd.{JobEnd};
-ghost use Rattle.gen_program.specs.Refusal.{IsBlamed, IsStatus, PointsAtHelp, Refuses};
+ghost use Rattle.gen_program.specs.Refusal.{IsStatus, PointsAtHelp, Refuses};
 ghost use Rattle.gen_program.specs.Sources.{writes_bytes};
 
 use crate::blaming::{given_value, parts_of, show_usage};
@@ -13,7 +13,7 @@ use crate::several::{Several, read_several};
 use crate::sources::{Source, source_of};
 use crate::terminals::Terminals;
 use crate::words::{WordsFault, read_request};
-use gen_jobs::{Job, JobEnd, JobFault, Telling, do_job};
+use gen_jobs::{Job, JobEnd, JobFault, Telling, deliver, deliver_bundle, do_job};
 use std::alloc::{AllocError, Global};
 use std::fs::File;
 use std::io::Read;
@@ -31,23 +31,18 @@ pub fn run<
 >(rt: &R) -> u8
     ensures { IsStatus result }
 {
-    match given_words(rt) {
-        Ok(given) => match texts_of(rt.alloc(), &given) {
-            Ok(words) => answer(rt, &words),
-            Err(_) => refuse(rt, &WordsFault::Memory, None),
-        },
-        Err(fault) => refuse(rt, &fault, None),
-    }
-}
-
-/// Returns the words of this process. The first is the program's name.
-fn given_words<R: Env + AllocGlobal>(rt: &R) -> Result<Vec<String>, WordsFault> {
-    let given = match env::args(rt) {
-        Ok(given) => given,
-        Err(e) if e.kind() == io::ErrorKind::OutOfMemory => return Err(WordsFault::Memory),
-        Err(_) => return Err(WordsFault::NotText),
+    let given: Result<Vec<String>, AllocError> = match env::args(rt) {
+        Ok(given) => given.collect(rt.alloc()),
+        Err(e) if e.kind() == io::ErrorKind::OutOfMemory => Err(AllocError),
+        Err(_) => return refuse(rt, &WordsFault::NotText, None),
     };
-    Ok(given.collect(rt.alloc())?)
+    let Ok(given) = given else {
+        return refuse(rt, &WordsFault::Memory, None);
+    };
+    match texts_of(rt.alloc(), &given) {
+        Ok(words) => answer(rt, &words),
+        Err(_) => refuse(rt, &WordsFault::Memory, None),
+    }
 }
 
 /// Returns the texts of strings, in their order.
@@ -112,9 +107,13 @@ fn finish_several<R: Files + Terminals + AllocGlobal + Input + Print + Eprint>(
             if rt.writes_terminal() {
                 return refuse_terminal(rt);
             }
-            end_with(rt, join_files(rt, *faulty, header, generals, logs))
+            let bundle = join_files(rt, *faulty, header, generals, logs);
+            end_with(rt, deliver_bundle(&mut io::writer(rt), bundle))
         }
-        Several::Answer { evidence, log } => end_with(rt, answer_files(rt, evidence, log)),
+        Several::Answer { evidence, log } => {
+            let output = answer_files(rt, evidence, log);
+            end_with(rt, deliver(&mut io::writer(rt), output))
+        }
     }
 }
 
@@ -198,8 +197,8 @@ fn end_with<R: Eprint>(rt: &R, end: JobEnd) -> u8
     end.status()
 }
 
-/// Answers words that ask for no job, and returns the exit status. Help and the version go to standard output, any
-/// other text to standard error. The value is that of the option which is bad.
+/// Answers words that ask for no job, and returns the exit status. Help and the version go to standard output. A line that
+/// says what is wrong with the words goes to standard error. The value is that of the option which is bad.
 fn refuse<R: AllocGlobal + Print + Eprint>(rt: &R, fault: &WordsFault, value: Option<String>) -> u8
     ensures by_fault { Refuses fault.now result }
     ensures status { IsStatus result }
@@ -210,21 +209,13 @@ fn refuse<R: AllocGlobal + Print + Eprint>(rt: &R, fault: &WordsFault, value: Op
             Ok(()) => end_with(rt, JobEnd::Done),
             Err(_) => end_with(rt, JobEnd::Failed(JobFault::Write)),
         },
-        _ => blame(rt, fault, value),
-    }
-}
-
-/// Writes a line to standard error that says what is wrong with the words, and returns the exit status.
-fn blame<R: AllocGlobal + Eprint>(rt: &R, fault: &WordsFault, value: Option<String>) -> u8
-    ensures blamed { IsBlamed result }
-    ensures status { IsStatus result }
-{
-    match fault_line(rt.alloc(), fault, value) {
-        Ok(line) => {
-            let _ = eprintln!(rt; "{line}");
-            WORDS_STATUS
-        }
-        Err(_) => end_with(rt, JobEnd::Failed(JobFault::Memory)),
+        _ => match fault_line(rt.alloc(), fault, value) {
+            Ok(line) => {
+                let _ = eprintln!(rt; "{line}");
+                WORDS_STATUS
+            }
+            Err(_) => end_with(rt, JobEnd::Failed(JobFault::Memory)),
+        },
     }
 }
 

@@ -1,13 +1,10 @@
 //! The commands that have several files: each file is read in the order of the words.
 use crate::sources::{Source, source_of};
 use crate::terminals::Terminals;
-use gen_jobs::{
-    BundleText, JobEnd, JobFault, Output, answer, deliver, deliver_bundle, join_in_pieces, read_all,
-};
+use gen_jobs::{BundleText, JobFault, Output, answer, join_in_pieces, read_all};
 use gen_local::Exhibit;
 use gen_types::{GeneralNo, GeneralSet};
 use std::fs::File;
-use std::io;
 use std::rt::Files;
 
 /// Says on standard error that the program waits for the end of the input, if the input is a terminal.
@@ -37,7 +34,7 @@ fn read_file<R: Files + Terminals + AllocGlobal + Input + Eprint>(
 }
 
 /// Returns the bundle of a header and logs in their files, which are each with its general and in their order.
-fn joined<R: Files + Terminals + AllocGlobal + Input + Eprint>(
+pub(crate) fn join_files<R: Files + Terminals + AllocGlobal + Input + Eprint>(
     rt: &R,
     faulty: GeneralSet,
     header: &str,
@@ -56,20 +53,8 @@ fn joined<R: Files + Terminals + AllocGlobal + Input + Eprint>(
     join_in_pieces(rt.alloc(), &header, faulty, logs.as_slice())
 }
 
-/// Reads a header and logs from their files, and writes their bundle to standard output. Returns how it ended.
-pub(crate) fn join_files<R: Files + Terminals + AllocGlobal + Input + Print + Eprint>(
-    rt: &R,
-    faulty: GeneralSet,
-    header: &str,
-    generals: &[GeneralNo],
-    files: &[&str],
-) -> JobEnd {
-    let bundle = joined(rt, faulty, header, generals, files);
-    deliver_bundle(&mut io::writer(rt), bundle)
-}
-
 /// Returns what a log answers to evidence, of their files.
-fn answered<R: Files + Terminals + AllocGlobal + Input + Eprint>(
+pub(crate) fn answer_files<R: Files + Terminals + AllocGlobal + Input + Eprint>(
     rt: &R,
     evidence: &str,
     log: &str,
@@ -77,14 +62,4 @@ fn answered<R: Files + Terminals + AllocGlobal + Input + Eprint>(
     let evidence = read_file(rt, evidence)?;
     let log = read_file(rt, log)?;
     answer(rt.alloc(), &evidence, &log)
-}
-
-/// Reads evidence and a log from their files, and writes what the log answers to standard output. Returns how it ended.
-pub(crate) fn answer_files<R: Files + Terminals + AllocGlobal + Input + Print + Eprint>(
-    rt: &R,
-    evidence: &str,
-    log: &str,
-) -> JobEnd {
-    let output = answered(rt, evidence, log);
-    deliver(&mut io::writer(rt), output)
 }

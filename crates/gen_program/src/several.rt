@@ -1,8 +1,7 @@
 //! The words of the commands that have several files: `bundle` with a header and logs, `answer` with evidence and a log.
 ghost use Rattle.std.specs.Prelude.{◌≡◌, ◌∷◌, codes, IfErr, IfOk, MatchOption, Some, None, map, nat_le, option_map};
-ghost use Rattle.clap.specs.Simple.{subcommand_rows_of};
 ghost use Rattle.clap.specs.Words.{first_of, found_of, rows_of};
-ghost use Rattle.gen_program.specs.Several.{AreNamed, AsksSeveral, HasSeveralFault, IsAnswerFault, IsBundleFault, IsSaid, IsSaidBy, IsSeveral, IsSeveralFault, IsSeveralFaultOf, NamesNone, file_named, general_named, log_words, set_given, standards};
+ghost use Rattle.gen_program.specs.Several.{AreNamed, AsksSeveral, IsAnswerFault, IsBundleFault, IsSeveral, IsSeveralFaultOf, NamesNone, file_named, general_named, log_words, standards};
 
 use crate::words::{WordsFault, general_of, matches_of};
 use clap::ArgMatches;
@@ -71,17 +70,6 @@ fn logs_named<'a>(alloc: Global, words: &[&'a str]) -> Result<Option<NamedLogs<'
     Ok(Some(NamedLogs { generals, files }))
 }
 
-/// Returns the generals that are held for faulty: nobody without a text, and else those that the text spells, if it spells
-/// some.
-fn set_given(alloc: Global, text: Option<&str>) -> Result<Option<GeneralSet>, AllocError>
-    ensures { IfOk result (λ set. set ≡ set_given (option_map (λ t. t.now) text.entry)) }
-{
-    match text {
-        Some(text) => read_faulty(alloc, text.as_bytes()),
-        None => Ok(Some(GeneralSet::new())),
-    }
-}
-
 /// Whether standard input stands at most once among a first name and others.
 fn read_once(first: &str, others: &[&str]) -> bool
     ensures { result ≡ nat_le (standards (first.now ∷ map (λ o. o.now) others.now)) 1 }
@@ -121,7 +109,11 @@ fn bundle_said<'a>(alloc: Global, inner: &ArgMatches<'a>) -> Result<Several<'a>,
     let Some(header) = text_of(inner, "file") else {
         return Err(WordsFault::NoCommand);
     };
-    let Some(faulty) = set_given(alloc, text_of(inner, "faulty"))? else {
+    let faulty = match text_of(inner, "faulty") {
+        Some(text) => read_faulty(alloc, text.as_bytes())?,
+        None => Some(GeneralSet::new()),
+    };
+    let Some(faulty) = faulty else {
         return Err(WordsFault::BadFaulty);
     };
     let Some(named) = named_in(alloc, inner)? else {
@@ -152,33 +144,6 @@ fn answer_said<'a>(inner: &ArgMatches<'a>) -> Result<Several<'a>, WordsFault>
     Ok(Several::Answer { evidence, log })
 }
 
-/// Returns what the arguments of a command say that has several files; None if it is another command.
-fn said_by<'a>(
-    alloc: Global,
-    name: &str,
-    inner: &ArgMatches<'a>,
-) -> Result<Option<Several<'a>>, WordsFault>
-    ensures said { IfOk result (IsSaid (name.now, rows_of (found_of inner.now))) }
-    ensures fault { IfErr result (IsSeveralFault (name.now, rows_of (found_of inner.now))) }
-{
-    match name {
-        "bundle" => Ok(Some(bundle_said(alloc, inner)?)),
-        "answer" => Ok(Some(answer_said(inner)?)),
-        _ => Ok(None),
-    }
-}
-
-/// Returns what the command says that the command line found; None if it has one file, or if none was found.
-fn said_in<'a>(alloc: Global, matches: &ArgMatches<'a>) -> Result<Option<Several<'a>>, WordsFault>
-    ensures said { IfOk result (IsSaidBy (subcommand_rows_of matches.now)) }
-    ensures fault { IfErr result (HasSeveralFault (subcommand_rows_of matches.now)) }
-{
-    match matches.subcommand() {
-        Some((name, inner)) => said_by(alloc, name, inner),
-        None => Ok(None),
-    }
-}
-
 /// Returns what words ask for that name several files; the first word is the program's name. None if their command has
 /// one file, or if they name no command.
 ///
@@ -194,10 +159,18 @@ pub fn read_several<'a>(
     ensures said { IfOk result (AsksSeveral (map (λ w. w.now) words.now)) }
     ensures fault { IfErr result (IsSeveralFaultOf (map (λ w. w.now) words.now)) }
 {
-    match matches_of(alloc, words) {
-        Ok(matches) => said_in(alloc, &matches),
-        Err(WordsFault::Memory) => Err(WordsFault::Memory),
+    let matches = match matches_of(alloc, words) {
+        Ok(matches) => matches,
+        Err(WordsFault::Memory) => return Err(WordsFault::Memory),
         // What else the command line finds is told where one file is named.
-        Err(_) => Ok(None),
+        Err(_) => return Ok(None),
+    };
+    let Some((name, inner)) = matches.subcommand() else {
+        return Ok(None);
+    };
+    match name {
+        "bundle" => Ok(Some(bundle_said(alloc, inner)?)),
+        "answer" => Ok(Some(answer_said(inner)?)),
+        _ => Ok(None),
     }
 }

@@ -1,13 +1,12 @@
 //! Reads the words of the command line.
 ghost use Rattle.std.specs.Prelude.{◌≡◌, ◌≤◌, ◌&&◌, [], IfOk, IfErr, IfSome, None, Some, IsSome, map, option_map};
-ghost use Rattle.clap.specs.Simple.{subcommand_rows_of};
 ghost use Rattle.clap.specs.Words.{fault_of};
 ghost use Rattle.gen_net.specs.Version.{greatest_slot, slot_in};
 ghost use Rattle.gen_jobs.specs.Ranges.{IsInRange};
 ghost use Rattle.gen_program.specs.CommandLine.{tool};
-ghost use Rattle.gen_program.specs.Jobs.{asked_of, faulty_asked, form_asked, is_set, job_against, job_named, job_reading, job_showing, height_asked, HasSlot, number_between, version_asked, runs_asked};
-ghost use Rattle.gen_program.specs.Commands.{Gives, HasSubcommand, IsGivenBy, choices_in, job_in, refusal_in};
-ghost use Rattle.gen_program.specs.Tool.{asked, is_missing, refusal, takes_capacity, takes_faulty, takes_general, takes_runs, takes_slot, takes_workers, Asks, IsFaultOf};
+ghost use Rattle.gen_program.specs.Jobs.{asked_of, faulty_asked, is_set, job_against, job_named, job_reading, job_showing, HasSlot, number_between, version_asked, runs_asked};
+ghost use Rattle.gen_program.specs.Commands.{Gives, HasSubcommand, choices_in};
+ghost use Rattle.gen_program.specs.Tool.{asked, is_missing, refusal, takes_runs, Asks, IsFaultOf};
 ghost use Rattle.gen_program.specs.declared.words.WordsFault.TheVariants.{Memory};
 
 use crate::choices::Choices;
@@ -189,24 +188,6 @@ fn faulty_asked(alloc: Global, text: Option<&str>) -> Result<Option<Faulty>, All
     }
 }
 
-/// Returns the form of the answer, by the text that the command line gives for the flag for JSON.
-fn form_asked(text: Option<&str>) -> Form
-    ensures { result ≡ form_asked (option_map (λ t. t.now) text.entry) }
-{
-    if is_set(text) { Form::Json } else { Form::Text }
-}
-
-/// Returns the height of a tree of keys, by the text that the command line gives for the flag for a tall one.
-fn height_asked(text: Option<&str>) -> TreeHeight
-    ensures { result ≡ height_asked (option_map (λ t. t.now) text.entry) }
-{
-    if is_set(text) {
-        TreeHeight::Six
-    } else {
-        TreeHeight::Four
-    }
-}
-
 /// Returns the version of a header: 1 without a text, and 2 with the slot that a text spells, 0 to 3. None if it spells
 /// none.
 #[tactic(auto, unfolding(crate::specs::Jobs::version_asked))]
@@ -233,8 +214,16 @@ fn choices_of(alloc: Global, given: &GivenCommand<'_>) -> Result<Choices, AllocE
         runs,
         faulty,
         strict: is_set(given.strict),
-        form: form_asked(given.json),
-        height: height_asked(given.tall),
+        form: if is_set(given.json) {
+            Form::Json
+        } else {
+            Form::Text
+        },
+        height: if is_set(given.tall) {
+            TreeHeight::Six
+        } else {
+            TreeHeight::Four
+        },
         version: version_asked(given.slot),
     })
 }
@@ -272,24 +261,6 @@ fn job_showing(name: &str, choices: &Choices) -> Option<Job>
     }
 }
 
-/// Returns the job `accuse`, by the text of its option, if the runs that are asked for are known, or one of the others;
-/// none for any other name.
-#[tactic(auto, unfolding(crate::specs::Jobs::job_against))]
-fn job_against(name: &str, general: Option<&str>, choices: &Choices) -> Option<Job>
-    requires { HasSlot choices.now }
-    ensures said { result ≡ job_against name.now (option_map (λ t. t.now) general.entry) choices.now }
-    ensures range { IfSome result IsInRange }
-{
-    if name == "accuse" {
-        Some(Job::Accuse {
-            general: general_of(general)?,
-            asked: choices.runs?,
-        })
-    } else {
-        job_showing(name, choices)
-    }
-}
-
 /// Returns the job `draw`, if it is named, or else the job `audit`, by the text of their option, if its runs and its set
 /// are known.
 fn job_reading(name: &str, workers: Option<&str>, choices: &Choices) -> Option<Job>
@@ -316,6 +287,7 @@ fn job_reading(name: &str, workers: Option<&str>, choices: &Choices) -> Option<J
 }
 
 /// Returns the job of a command, by the texts of its options and what it chooses.
+#[tactic(auto, unfolding(crate::specs::Jobs::job_against))]
 fn job_of(
     name: &str,
     capacity: Option<&str>,
@@ -343,40 +315,12 @@ fn job_of(
             capacity: number_between(capacity, 1, MOST_CAPACITY)?,
         }),
         "audit" | "draw" => job_reading(name, workers, choices),
-        _ => job_against(name, general, choices),
+        "accuse" => Some(Job::Accuse {
+            general: general_of(general)?,
+            asked: choices.runs?,
+        }),
+        _ => job_showing(name, choices),
     }
-}
-
-/// Whether a command takes a capacity, and the text is no number from 1 to 16.
-fn lacks_capacity(name: &str, capacity: Option<&str>) -> bool
-    ensures { result ≡ (takes_capacity name.now
-        && is_missing (number_between 1 16 (option_map (λ t. t.now) capacity.entry))) }
-{
-    matches!(name, "run" | "judge" | "campaign")
-        && number_between(capacity, 1, MOST_CAPACITY).is_none()
-}
-
-/// Whether a command takes a number of workers, and the text is no number from 1 to 16.
-fn lacks_workers(name: &str, workers: Option<&str>) -> bool
-    ensures { result ≡ (takes_workers name.now
-        && is_missing (number_between 1 16 (option_map (λ t. t.now) workers.entry))) }
-{
-    matches!(name, "audit" | "draw" | "judge") && number_between(workers, 1, MOST_WORKERS).is_none()
-}
-
-/// Whether a command takes a general, and the text is no number from 0 to 15.
-fn lacks_general(name: &str, general: Option<&str>) -> bool
-    ensures { result ≡ (takes_general name.now
-        && is_missing (number_between 0 15 (option_map (λ t. t.now) general.entry))) }
-{
-    name == "accuse" && number_between(general, 0, LAST_GENERAL).is_none()
-}
-
-/// Whether a command takes a slot, and it is not known.
-fn lacks_slot(name: &str, choices: &Choices) -> bool
-    ensures { result ≡ (takes_slot name.now && is_missing choices.now.version) }
-{
-    name == "header" && choices.version.is_none()
 }
 
 /// Whether a command takes the runs that are asked for, and they are not known.
@@ -384,13 +328,6 @@ fn lacks_runs(name: &str, choices: &Choices) -> bool
     ensures { result ≡ (takes_runs name.now && is_missing choices.now.runs) }
 {
     matches!(name, "audit" | "draw" | "accuse" | "evidence" | "show") && choices.runs.is_none()
-}
-
-/// Whether a command takes the generals that are held for faulty, and they are not known.
-fn lacks_faulty(name: &str, choices: &Choices) -> bool
-    ensures { result ≡ (takes_faulty name.now && is_missing choices.now.faulty) }
-{
-    matches!(name, "audit" | "draw") && choices.faulty.is_none()
 }
 
 /// Returns why a command has no job: the first of its numbers that is missing or out of its range; or that the runs that
@@ -406,17 +343,21 @@ fn refusal_of(
         (number_between 1 16 (option_map (λ t. t.now) workers.entry))
         (number_between 0 15 (option_map (λ t. t.now) general.entry)) choices.now }
 {
-    if lacks_capacity(name, capacity) {
+    if matches!(name, "run" | "judge" | "campaign")
+        && number_between(capacity, 1, MOST_CAPACITY).is_none()
+    {
         WordsFault::BadCapacity
-    } else if lacks_workers(name, workers) {
+    } else if matches!(name, "audit" | "draw" | "judge")
+        && number_between(workers, 1, MOST_WORKERS).is_none()
+    {
         WordsFault::BadWorkers
-    } else if lacks_general(name, general) {
+    } else if name == "accuse" && number_between(general, 0, LAST_GENERAL).is_none() {
         WordsFault::BadGeneral
-    } else if lacks_slot(name, choices) {
+    } else if name == "header" && choices.version.is_none() {
         WordsFault::BadSlot
     } else if lacks_runs(name, choices) {
         WordsFault::BadRun
-    } else if lacks_faulty(name, choices) {
+    } else if matches!(name, "audit" | "draw") && choices.faulty.is_none() {
         WordsFault::BadFaulty
     } else {
         WordsFault::NoCommand
@@ -437,12 +378,21 @@ pub(crate) fn matches_of<'a>(
     Ok(command.try_get_matches_from(words)?)
 }
 
-/// Returns the command that was found, with the texts of its options; None if no command was found.
-fn given_by<'a>(matches: &ArgMatches<'a>) -> Option<GivenCommand<'a>>
-    ensures { IsGivenBy (subcommand_rows_of matches.now) result }
+/// Returns the command that the words name, with the texts of its options.
+pub(crate) fn given_in<'a>(
+    alloc: Global,
+    words: &'a [&'a str],
+) -> Result<GivenCommand<'a>, WordsFault>
+    ensures ok { IfOk result (Gives (map (λ w. w.now) words.now)) }
+    ensures only { IfErr result (λ fault.
+        IsSome (asked (map (λ w. w.now) words.now)) → fault ≡ Memory) }
+    ensures fault { IfErr result (IsFaultOf (map (λ w. w.now) words.now)) }
 {
-    let (name, inner) = matches.subcommand()?;
-    Some(GivenCommand {
+    let matches = matches_of(alloc, words)?;
+    let Some((name, inner)) = matches.subcommand() else {
+        return Err(WordsFault::NoCommand);
+    };
+    Ok(GivenCommand {
         name,
         capacity: inner.get_str("capacity"),
         workers: inner.get_str("workers"),
@@ -456,49 +406,6 @@ fn given_by<'a>(matches: &ArgMatches<'a>) -> Option<GivenCommand<'a>>
         print_run: inner.get_str("print-run"),
         file: inner.get_str("file"),
     })
-}
-
-/// Returns the command that the words name, with the texts of its options.
-pub(crate) fn given_in<'a>(
-    alloc: Global,
-    words: &'a [&'a str],
-) -> Result<GivenCommand<'a>, WordsFault>
-    ensures ok { IfOk result (Gives (map (λ w. w.now) words.now)) }
-    ensures only { IfErr result (λ fault.
-        IsSome (asked (map (λ w. w.now) words.now)) → fault ≡ Memory) }
-    ensures fault { IfErr result (IsFaultOf (map (λ w. w.now) words.now)) }
-{
-    let matches = matches_of(alloc, words)?;
-    match given_by(&matches) {
-        Some(given) => Ok(given),
-        None => Err(WordsFault::NoCommand),
-    }
-}
-
-/// Returns the job of a command that was given, or why it has none.
-fn job_given(given: &GivenCommand<'_>, choices: &Choices) -> Result<Job, WordsFault>
-    requires { HasSlot choices.now }
-    ensures ok { IfOk result (λ job. job_in given.now choices.now ≡ Some job) }
-    ensures range { IfOk result IsInRange }
-    ensures err { IfErr result (λ fault. (job_in given.now choices.now ≡ None)
-        × (fault ≡ refusal_in given.now choices.now)) }
-{
-    match job_of(
-        given.name,
-        given.capacity,
-        given.workers,
-        given.general,
-        choices,
-    ) {
-        Some(job) => Ok(job),
-        None => Err(refusal_of(
-            given.name,
-            given.capacity,
-            given.workers,
-            given.general,
-            choices,
-        )),
-    }
 }
 
 /// Returns what the words ask for; the first word is the program's name.
@@ -519,13 +426,14 @@ pub fn read_request<'a>(alloc: Global, words: &'a [&'a str]) -> Result<Request<'
 {
     let given = given_in(alloc, words)?;
     let choices = choices_of(alloc, &given)?;
-    match job_given(&given, &choices) {
-        Ok(job) => Ok(Request {
+    let (capacity, workers) = (given.capacity, given.workers);
+    match job_of(given.name, capacity, workers, given.general, &choices) {
+        Some(job) => Ok(Request {
             job,
             file: given.file,
             prints_runs: is_set(given.print_run),
         }),
-        Err(fault) => Err(fault),
+        None => Err(refusal_of(given.name, capacity, workers, given.general, &choices)),
     }
 }
 

@@ -8,3 +8,6 @@ returns-in-Memory-clause-status g c = inr (Failed faults.Memory, c.end_with.ensu
 
 pub returns-in-Words-clause-status : goal.returns-in-Words-clause-status
 returns-in-Words-clause-status g c = inr (Failed faults.Write, c.end_with-in-Err.ensures)
+
+pub returns-clause-status : goal.returns-clause-status
+returns-clause-status g c = inr (Failed faults.Memory, c.end_with-in-Err-fault_line.ensures)
