@@ -1,5 +1,5 @@
 -- Findings as JSON.
-use Rattle.std.specs.Prelude.{ℕ, List, [], ◌∷◌, codes}
+use Rattle.std.specs.Prelude.{ℕ, List, [], ◌∷◌, codes, Option, Some, None}
 use Rattle.serde_json.specs.Data.{Data, string}
 use Rattle.gen_match.specs.declared.finding.Finding.{Finding}
 use Rattle.gen_match.specs.declared.finding.Finding.TheVariants.{Missing, Several, Unreadable, Foreign, Unsigned, Unsealed, Departs, Unmatched, Underivable, Unjoined, Nobody}
@@ -14,6 +14,11 @@ about_general id general = fields ((codes "general", whole general) ∷ (codes "
 abbrev pub about_entry : List ℕ → ℕ → ℕ → Data
 about_entry id general entry =
     fields ((codes "entry", whole entry) ∷ (codes "general", whole general) ∷ (codes "id", string id) ∷ [])
+
+-- a finding about a general, or about an entry of its log
+abbrev pub about : List ℕ → ℕ → Option ℕ → Data
+about id general None = about_general id general
+about id general (Some entry) = about_entry id general entry
 
 -- a finding about a message
 abbrev pub about_message : List ℕ → ℕ → ℕ → ℕ → ℕ → Data

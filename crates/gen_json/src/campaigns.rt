@@ -1,11 +1,10 @@
 //! Verdicts on campaigns as JSON.
-ghost use Rattle.std.specs.Prelude.{◌≡◌, ◌++◌, [], ◌∷◌, IfOk, OnOk, map};
+ghost use Rattle.std.specs.Prelude.{◌≡◌, IfOk, map};
 ghost use Rattle.serde_json.specs.Data.{array};
 ghost use Rattle.serde_json.specs.View.{items_of, view};
 ghost use Rattle.gen_convict.specs.Evidence.{told_of};
 ghost use Rattle.gen_campaign.specs.CampaignVerdictText.{place_of};
-ghost use Rattle.gen_json.specs.CampaignData.{across_data, alone_data, campaign_data, run_data, runs_data};
-ghost use Rattle.gen_json.specs.JsonData.{list_of};
+ghost use Rattle.gen_json.specs.CampaignData.{across_data, campaign_data, runs_data};
 ghost use Rattle.gen_json.specs.Line.{ReadsAs, json_line};
 
 use crate::convictions::conviction_value;
@@ -18,35 +17,6 @@ use gen_convict::{Claim, Evidence};
 use serde_json::Value;
 use std::alloc::{AllocError, Global};
 
-/// Returns the judgement on the run of a bundle.
-fn run_value(alloc: Global, bundle: &Bundle, judgement: &Judgement) -> Result<Value, AllocError>
-    ensures { IfOk result (λ v. view v ≡ run_data bundle.now judgement.now) }
-{
-    judgement_value(alloc, bundle.header(), bundle.faulty(), judgement)
-}
-
-/// Appends a value.
-fn push_seen(list: &mut Vec<Value>, value: Value) -> Result<(), AllocError>
-    ensures { OnOk result
-        (map view list.new.items ≡ map view list.old.items ++ view value ∷ []) }
-{
-    serde_json::push(list, value)
-}
-
-/// Appends the judgement on the run of a bundle.
-fn push_run(
-    alloc: Global,
-    list: &mut Vec<Value>,
-    bundle: &Bundle,
-    judgement: &Judgement,
-) -> Result<(), AllocError>
-    ensures { OnOk result (map view list.new.items
-        ≡ map view list.old.items ++ run_data bundle.now judgement.now ∷ []) }
-{
-    let value = run_value(alloc, bundle, judgement)?;
-    push_seen(list, value)
-}
-
 /// Returns the list of the judgements on runs, in their order. A run without a judgement has none.
 fn runs_value(
     alloc: Global,
@@ -58,11 +28,12 @@ fn runs_value(
     let mut list = Vec::new(alloc);
     let mut runs = bundles;
     let mut rest = judgements;
-    'runs: while let Some((run, others)) = runs.split_first() {
+    'runs: while let Some((bundle, others)) = runs.split_first() {
         let Some((judgement, more)) = rest.split_first() else {
             return Ok(Value::Array(list));
         };
-        push_run(alloc, &mut list, run, judgement)?;
+        let value = judgement_value(alloc, bundle.header(), bundle.faulty(), judgement)?;
+        serde_json::push(&mut list, value)?;
         runs = others;
         rest = more;
     }
@@ -87,41 +58,8 @@ fn across_value(alloc: Global, bundles: &[Bundle], evidence: &Evidence) -> Resul
     }
 }
 
-/// Returns the list of convictions across two runs.
-fn all_across_value(
-    alloc: Global,
-    bundles: &[Bundle],
-    across: &[Evidence],
-) -> Result<Value, AllocError>
-    ensures { IfOk result (λ v. view v
-        ≡ list_of (across_data bundles.now) (map told_of across.now)) }
-{
-    let mut list = Vec::new(alloc);
-    for evidence in across {
-        let value = across_value(alloc, bundles, evidence)?;
-        serde_json::push(&mut list, value)?;
-    }
-    Ok(Value::Array(list))
-}
-
-/// Returns the judgement on the first run, and null if there is none.
-fn alone_value(
-    alloc: Global,
-    bundles: &[Bundle],
-    judgements: &[Judgement],
-) -> Result<Value, AllocError>
-    ensures { IfOk result (λ v. view v ≡ alone_data bundles.now judgements.now) }
-{
-    let Some((bundle, _)) = bundles.split_first() else {
-        return Ok(Value::Null);
-    };
-    let Some((judgement, _)) = judgements.split_first() else {
-        return Ok(Value::Null);
-    };
-    run_value(alloc, bundle, judgement)
-}
-
-/// Returns the verdict on what is shown of a campaign.
+/// Returns the verdict on what is shown of a campaign. If that is a bundle that stands alone, it is the judgement on it,
+/// and null if there is none.
 fn campaign_value(
     alloc: Global,
     campaign: &CampaignBundle,
@@ -133,11 +71,22 @@ fn campaign_value(
     let bundles = campaign.bundles();
     let judgements = verdict.judgements.as_slice();
     if campaign.is_alone() {
-        alone_value(alloc, bundles, judgements)
+        let Some((bundle, _)) = bundles.split_first() else {
+            return Ok(Value::Null);
+        };
+        let Some((judgement, _)) = judgements.split_first() else {
+            return Ok(Value::Null);
+        };
+        judgement_value(alloc, bundle.header(), bundle.faulty(), judgement)
     } else {
         let across = verdict.across.as_slice();
+        let mut list = Vec::new(alloc);
+        for evidence in across {
+            let value = across_value(alloc, bundles, evidence)?;
+            serde_json::push(&mut list, value)?;
+        }
         let mut object = ObjectBuilder::new(alloc);
-        object.put_made("across", all_across_value(alloc, bundles, across));
+        object.put("across", Value::Array(list));
         object.put_text("format", "campaign verdict");
         object.put_made("runs", runs_value(alloc, bundles, judgements));
         object.put("version", Value::from(JSON_VERSION));

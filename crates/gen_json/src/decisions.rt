@@ -1,7 +1,7 @@
 //! Decisions as JSON.
 ghost use Rattle.std.specs.Prelude.{◌≡◌, IfOk};
 ghost use Rattle.serde_json.specs.View.{view};
-ghost use Rattle.gen_json.specs.DecisionData.{decided_data, decision_data, decisions_data, run_data};
+ghost use Rattle.gen_json.specs.DecisionData.{decided_data, decision_data, decisions_data};
 ghost use Rattle.gen_json.specs.JsonData.{list_of};
 ghost use Rattle.gen_json.specs.Line.{ReadsAs, json_line};
 
@@ -14,59 +14,33 @@ use gen_types::GeneralSet;
 use serde_json::Value;
 use std::alloc::{AllocError, Global};
 
-/// Returns which order a general decided.
-fn decided_value(alloc: Global, decision: &Decision) -> Result<Value, AllocError>
-    ensures { IfOk result (λ v. view v ≡ decided_data decision.now) }
-{
-    let mut object = ObjectBuilder::new(alloc);
-    object.put("general", Value::from(decision.general.get()));
-    object.put("order", Value::from(decision.order.get()));
-    object.finish()
-}
-
 /// Returns the list of which orders generals decided.
 pub(crate) fn all_decided_value(alloc: Global, decisions: &[Decision]) -> Result<Value, AllocError>
     ensures { IfOk result (λ v. view v ≡ list_of decided_data decisions.now) }
 {
     let mut list = Vec::new(alloc);
     for decision in decisions {
-        let value = decided_value(alloc, decision)?;
-        serde_json::push(&mut list, value)?;
+        let mut object = ObjectBuilder::new(alloc);
+        object.put("general", Value::from(decision.general.get()));
+        object.put("order", Value::from(decision.order.get()));
+        serde_json::push(&mut list, object.finish()?)?;
     }
     Ok(Value::Array(list))
 }
 
-/// Returns which order a general decided from which set of orders.
-fn decision_value(alloc: Global, decision: &Decision) -> Result<Value, AllocError>
-    ensures { IfOk result (λ v. view v ≡ decision_data decision.now) }
-{
-    let mut object = ObjectBuilder::new(alloc);
-    object.put("general", Value::from(decision.general.get()));
-    object.put("order", Value::from(decision.order.get()));
-    object.put_made("set", set_value(alloc, &decision.orders));
-    object.finish()
-}
-
-/// Returns the list of decisions.
+/// Returns the list of decisions, each with the set of orders that it was made from.
 fn decision_list_value(alloc: Global, decisions: &[Decision]) -> Result<Value, AllocError>
     ensures { IfOk result (λ v. view v ≡ list_of decision_data decisions.now) }
 {
     let mut list = Vec::new(alloc);
     for decision in decisions {
-        let value = decision_value(alloc, decision)?;
-        serde_json::push(&mut list, value)?;
+        let mut object = ObjectBuilder::new(alloc);
+        object.put("general", Value::from(decision.general.get()));
+        object.put("order", Value::from(decision.order.get()));
+        object.put_made("set", set_value(alloc, &decision.orders));
+        serde_json::push(&mut list, object.finish()?)?;
     }
     Ok(Value::Array(list))
-}
-
-/// Returns a run id in hexadecimal digits, and null for none.
-fn run_value(alloc: Global, run: Option<[u8; 32]>) -> Result<Value, AllocError>
-    ensures { IfOk result (λ v. view v ≡ run_data run) }
-{
-    match run {
-        Some(id) => digits_value(alloc, &id),
-        None => Ok(Value::Null),
-    }
 }
 
 /// Returns decisions on a network. They are those of the generals that aren't among the faulty.
@@ -85,9 +59,17 @@ fn decisions_value(
     object.put_made("faulty", set_value(alloc, faulty));
     object.put_text("format", "decisions");
     object.put_made("network", network_value(alloc, net));
-    object.put_made("run", run_value(alloc, run));
     object.put("version", Value::from(JSON_VERSION));
-    object.finish()
+    match run {
+        Some(id) => {
+            object.put_made("run", digits_value(alloc, &id));
+            object.finish()
+        }
+        None => {
+            object.put("run", Value::Null);
+            object.finish()
+        }
+    }
 }
 
 /// Returns the line of JSON of decisions on a network: its numbers, the run id or null, the generals that have scripts,

@@ -3,7 +3,7 @@ ghost use Rattle.std.specs.Prelude.{◌≡◌, IfOk};
 ghost use Rattle.serde_json.specs.View.{view};
 ghost use Rattle.gen_match.specs.declared.finding.Finding.TheVariants.{Unreadable};
 ghost use Rattle.gen_json.specs.JsonData.{list_of};
-ghost use Rattle.gen_json.specs.FindingData.{about_entry, about_general, about_message, finding_data};
+ghost use Rattle.gen_json.specs.FindingData.{about, about_message, finding_data};
 
 use crate::objects::ObjectBuilder;
 use gen_log::LogFault;
@@ -13,29 +13,21 @@ use gen_types::{GeneralNo, OrderNo};
 use serde_json::Value;
 use std::alloc::{AllocError, Global};
 
-/// Returns a finding about a general.
-fn about_general(alloc: Global, id: &str, general: GeneralNo) -> Result<Value, AllocError>
-    ensures { IfOk result (λ v. view v ≡ about_general id.now general) }
-{
-    let mut object = ObjectBuilder::new(alloc);
-    object.put("general", Value::from(general.get()));
-    object.put_text("id", id);
-    object.finish()
-}
-
-/// Returns a finding about an entry of a general's log.
-fn about_entry(
+/// Returns a finding about a general, or about an entry of its log.
+fn about(
     alloc: Global,
     id: &str,
     general: GeneralNo,
-    entry: usize,
+    entry: Option<usize>,
 ) -> Result<Value, AllocError>
-    ensures { IfOk result (λ v. view v ≡ about_entry id.now general entry) }
+    ensures { IfOk result (λ v. view v ≡ about id.now general entry) }
 {
     let mut object = ObjectBuilder::new(alloc);
-    object.put("entry", Value::from(entry));
     object.put("general", Value::from(general.get()));
     object.put_text("id", id);
+    if let Some(entry) = entry {
+        object.put("entry", Value::from(entry));
+    }
     object.finish()
 }
 
@@ -77,13 +69,13 @@ fn finding_value(alloc: Global, finding: &Finding) -> Result<Value, AllocError>
     ensures { IfOk result (λ v. view v ≡ finding_data finding.now) }
 {
     match *finding {
-        Finding::Missing { general } => about_general(alloc, "N1", general),
-        Finding::Several { general } => about_general(alloc, "N2", general),
+        Finding::Missing { general } => about(alloc, "N1", general, None),
+        Finding::Several { general } => about(alloc, "N2", general, None),
         Finding::Unreadable { general, fault } => unreadable(alloc, general, fault),
-        Finding::Foreign { general } => about_general(alloc, "N4", general),
-        Finding::Unsigned { general, entry } => about_entry(alloc, "N5", general, entry),
-        Finding::Unsealed { general } => about_general(alloc, "N6", general),
-        Finding::Departs { general, entry } => about_entry(alloc, "N7", general, entry),
+        Finding::Foreign { general } => about(alloc, "N4", general, None),
+        Finding::Unsigned { general, entry } => about(alloc, "N5", general, Some(entry)),
+        Finding::Unsealed { general } => about(alloc, "N6", general, None),
+        Finding::Departs { general, entry } => about(alloc, "N7", general, Some(entry)),
         Finding::Unmatched {
             from,
             to,

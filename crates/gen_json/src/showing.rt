@@ -1,24 +1,17 @@
 //! What a file is, as lines of JSON.
-ghost use Rattle.std.specs.Prelude.{◌≡◌, ◌++◌, Err, IfOk, Ok, OnOk};
-ghost use Rattle.gen_net.specs.FrontReading.{front_at};
-ghost use Rattle.gen_convict.specs.Evidence.{told_of};
-ghost use Rattle.gen_convict.specs.EvidenceReading.{IsWhole};
-ghost use Rattle.gen_convict.specs.Told.{told};
-ghost use Rattle.gen_show.specs.CampaignText.{HaveRoom};
-ghost use Rattle.gen_show.specs.EvidenceText.{HasRoom};
-ghost use Rattle.gen_show.specs.Showing.{file_kind, front_end, is_whole_as};
+ghost use Rattle.std.specs.Prelude.{◌≡◌, IfOk};
+ghost use Rattle.gen_show.specs.Showing.{file_kind, is_whole_as};
 ghost use Rattle.gen_show.specs.declared.kinds.FileKind.TheVariants as kinds;
-ghost use Rattle.gen_json.specs.CampaignLines.{campaign_lines};
-ghost use Rattle.gen_json.specs.ShowingLines.{IsEvidenceText, IsJsonAs, TellsEvidence, campaign_reading_lines, faulty_lines, front_lines};
+ghost use Rattle.gen_json.specs.ShowingLines.{IsJsonAs, faulty_lines};
 
 use crate::shown_bundles::push_end;
 use crate::shown_campaigns::push_campaign;
 use crate::shown_evidence::push_evidence;
 use crate::shown_faults::push_fault;
 use crate::shown_headers::push_header;
-use gen_campaign::{CampaignBundle, CampaignFault, read_campaign};
-use gen_convict::{Evidence, EvidenceFault, check_evidence, read_evidence};
-use gen_net::{Header, Marks, read_front, read_header};
+use gen_campaign::read_campaign;
+use gen_convict::{check_evidence, read_evidence};
+use gen_net::{Marks, read_front, read_header};
 use gen_show::{
     BUNDLE_MARKS, EVIDENCE_MARKS, FileKind, Shown, file_kind, front_length, push_campaign_fault,
     push_evidence_fault, push_header_fault,
@@ -26,30 +19,8 @@ use gen_show::{
 use gen_types::ReadError;
 use std::alloc::{AllocError, Global};
 
-/// Appends the line of the header with which a file begins, behind a mark, if one stands there. Returns the byte up to
-/// which it shows the file.
-fn push_front(
-    alloc: Global,
-    out: &mut Vec<u8>,
-    name: &str,
-    marks: Marks,
-    input: &[u8],
-) -> Result<usize, AllocError>
-    ensures text { OnOk result (out.new.items
-        ≡ out.old.items ++ front_lines name.now (front_at marks input.now)) }
-    ensures end { IfOk result (λ end. end ≡ front_end marks (front_at marks input.now)) }
-{
-    match read_front(alloc, marks, input) {
-        Ok((header, _rest)) => {
-            push_header(alloc, out, name, &header)?;
-            front_length(alloc, marks, &header)
-        }
-        Err(ReadError::Memory) => Err(AllocError),
-        Err(ReadError::Fault(_)) => Ok(0),
-    }
-}
-
-/// Returns the lines of what doesn't read: the header, if that reads, and the fault.
+/// Returns the lines of what doesn't read: the header behind its mark, if that reads, and the fault with the byte up to
+/// which the file is shown.
 #[tactic(auto, unfolding(crate::specs::ShowingLines::faulty_lines))]
 fn faulty(
     alloc: Global,
@@ -62,29 +33,19 @@ fn faulty(
         ≡ faulty_lines name.now marks input.now fault.now) }
 {
     let mut out = Vec::new(alloc);
-    let at = push_front(alloc, &mut out, name, marks, input)?;
-    push_fault(alloc, &mut out, fault, at)?;
-    Ok(out)
-}
-
-/// Returns the lines of bytes that show no campaign, with this fault.
-fn faulty_campaign(alloc: Global, input: &[u8], fault: CampaignFault) -> Result<Vec<u8>, AllocError>
-    ensures { IfOk result (λ text. text.items
-        ≡ campaign_reading_lines input.now (Err fault)) }
-{
-    let mut name = String::new(alloc);
-    push_campaign_fault(&mut name, fault)?;
-    faulty(alloc, "bundle", BUNDLE_MARKS, input, name.as_str())
-}
-
-/// Returns the lines of what is shown of a campaign.
-fn whole_campaign(alloc: Global, campaign: &CampaignBundle) -> Result<Vec<u8>, AllocError>
-    requires { HaveRoom campaign.now.alone campaign.now.bundles }
-    ensures { IfOk result (λ text. text.items ≡ campaign_lines campaign.now) }
-{
-    let mut out = Vec::new(alloc);
-    push_campaign(alloc, &mut out, campaign)?;
-    Ok(out)
+    match read_front(alloc, marks, input) {
+        Ok((header, _rest)) => {
+            push_header(alloc, &mut out, name, &header)?;
+            let at = front_length(alloc, marks, &header)?;
+            push_fault(alloc, &mut out, fault, at)?;
+            Ok(out)
+        }
+        Err(ReadError::Memory) => Err(AllocError),
+        Err(ReadError::Fault(_)) => {
+            push_fault(alloc, &mut out, fault, 0)?;
+            Ok(out)
+        }
+    }
 }
 
 /// Returns the lines of what is read as shown of a campaign.
@@ -96,42 +57,19 @@ fn show_campaign(alloc: Global, input: &[u8]) -> Result<Shown, AllocError>
     // The bundles end within the input.
     let _count = input.len();
     match read_campaign(alloc, input) {
-        Ok(campaign) => Ok(Shown {
-            text: whole_campaign(alloc, &campaign)?,
-            whole: true,
-        }),
+        Ok(campaign) => {
+            let mut text = Vec::new(alloc);
+            push_campaign(alloc, &mut text, &campaign)?;
+            Ok(Shown { text, whole: true })
+        }
         Err(ReadError::Memory) => Err(AllocError),
-        Err(ReadError::Fault(fault)) => Ok(Shown {
-            text: faulty_campaign(alloc, input, fault)?,
-            whole: false,
-        }),
+        Err(ReadError::Fault(fault)) => {
+            let mut name = String::new(alloc);
+            push_campaign_fault(&mut name, fault)?;
+            let text = faulty(alloc, "bundle", BUNDLE_MARKS, input, name.as_str())?;
+            Ok(Shown { text, whole: false })
+        }
     }
-}
-
-/// Returns the lines of bytes that are no evidence, with this fault.
-fn faulty_evidence(alloc: Global, input: &[u8], fault: EvidenceFault) -> Result<Vec<u8>, AllocError>
-    ensures { IfOk result (λ text. IsEvidenceText input.now text.items (Err fault)) }
-{
-    let mut name = String::new(alloc);
-    push_evidence_fault(&mut name, fault)?;
-    faulty(alloc, "evidence", EVIDENCE_MARKS, input, name.as_str())
-}
-
-/// Returns the lines of evidence, with whether it holds.
-fn whole_evidence(
-    alloc: Global,
-    header: &Header,
-    evidence: &Evidence,
-) -> Result<Vec<u8>, AllocError>
-    requires lawful { IsWhole (record { header = header.now; evidence = told_of evidence.now }) }
-    requires room { HasRoom header.now (told evidence.now.claim) }
-    ensures { IfOk result (λ text. TellsEvidence text.items
-        (record { header = header.now; evidence = told_of evidence.now })) }
-{
-    let holds = check_evidence(alloc, header, evidence)?;
-    let mut out = Vec::new(alloc);
-    push_evidence(alloc, &mut out, holds, header, evidence)?;
-    Ok(out)
 }
 
 /// Returns the lines of what is read as evidence.
@@ -143,15 +81,19 @@ fn show_evidence(alloc: Global, input: &[u8]) -> Result<Shown, AllocError>
     // The log of the claim ends within the input.
     let _count = input.len();
     match read_evidence(alloc, input) {
-        Ok((header, evidence)) => Ok(Shown {
-            text: whole_evidence(alloc, &header, &evidence)?,
-            whole: true,
-        }),
+        Ok((header, evidence)) => {
+            let holds = check_evidence(alloc, &header, &evidence)?;
+            let mut text = Vec::new(alloc);
+            push_evidence(alloc, &mut text, holds, &header, &evidence)?;
+            Ok(Shown { text, whole: true })
+        }
         Err(ReadError::Memory) => Err(AllocError),
-        Err(ReadError::Fault(fault)) => Ok(Shown {
-            text: faulty_evidence(alloc, input, fault)?,
-            whole: false,
-        }),
+        Err(ReadError::Fault(fault)) => {
+            let mut name = String::new(alloc);
+            push_evidence_fault(&mut name, fault)?;
+            let text = faulty(alloc, "evidence", EVIDENCE_MARKS, input, name.as_str())?;
+            Ok(Shown { text, whole: false })
+        }
     }
 }
 
@@ -182,18 +124,6 @@ fn show_header(alloc: Global, input: &[u8]) -> Result<Shown, AllocError>
     }
 }
 
-/// Returns the lines of what is read as a file of this kind.
-fn show_as(alloc: Global, kind: FileKind, input: &[u8]) -> Result<Shown, AllocError>
-    ensures text { IfOk result (λ s. IsJsonAs kind input.now s.text.items) }
-    ensures whole { IfOk result (λ s. s.whole ≡ is_whole_as kind input.now) }
-{
-    match kind {
-        FileKind::OfHeader => show_header(alloc, input),
-        FileKind::OfEvidence => show_evidence(alloc, input),
-        FileKind::OfCampaign => show_campaign(alloc, input),
-    }
-}
-
 /// Returns what a file is, as lines of JSON: a header alone, evidence, a bundle, or the bundles of several runs. Each
 /// line is an object, and the objects stand in the order of the lines of `gen_show::show`. The file is read as that call
 /// reads it. What doesn't read is shown up to its header, and its last line is its fault.
@@ -207,5 +137,9 @@ pub fn show_json(alloc: Global, input: &[u8]) -> Result<Shown, AllocError>
     // The bytes read as a whole file of their kind if and only if this is said.
     ensures whole { IfOk result (λ s. s.whole ≡ is_whole_as (file_kind input.now) input.now) }
 {
-    show_as(alloc, file_kind(input), input)
+    match file_kind(input) {
+        FileKind::OfHeader => show_header(alloc, input),
+        FileKind::OfEvidence => show_evidence(alloc, input),
+        FileKind::OfCampaign => show_campaign(alloc, input),
+    }
 }

@@ -1,9 +1,8 @@
 //! Bundles as JSON.
 ghost use Rattle.std.specs.Prelude.{◌≡◌, ◌+◌, ◌<◌, ◌^◌, ◌++◌, IfOk, OnOk, sum_by};
-ghost use Rattle.serde_json.specs.View.{view};
 ghost use Rattle.gen_show.specs.BundleText.{bundle_length, exhibit_length};
 ghost use Rattle.gen_json.specs.Line.{json_line};
-ghost use Rattle.gen_json.specs.BundleData.{bundle_lines, end_data, exhibit_lines, faulty_data, place_data, run_lines, walk_data};
+ghost use Rattle.gen_json.specs.BundleData.{bundle_lines, end_data, exhibit_lines, run_lines};
 
 use crate::numbers::{path_value, set_value};
 use crate::objects::{JSON_VERSION, ObjectBuilder};
@@ -14,34 +13,8 @@ use gen_audit::Bundle;
 use gen_local::Exhibit;
 use gen_net::Header;
 use gen_show::{EXHIBIT_FRONT, bundle_front_length, exhibit_bytes};
-use gen_types::GeneralSet;
-use gen_walks::Walk;
 use serde_json::Value;
 use std::alloc::{AllocError, Global};
-
-/// Returns the generals that are held for faulty.
-#[tactic(auto, unfolding(crate::specs::BundleData::faulty_data))]
-fn faulty_value(alloc: Global, faulty: &GeneralSet) -> Result<Value, AllocError>
-    ensures { IfOk result (λ v. view v ≡ faulty_data faulty.now) }
-{
-    let mut object = ObjectBuilder::new(alloc);
-    object.put_made("faulty", set_value(alloc, faulty));
-    object.put_text("format", "shown faulty");
-    object.put("version", Value::from(JSON_VERSION));
-    object.finish()
-}
-
-/// Returns a walk.
-#[tactic(auto, unfolding(crate::specs::BundleData::walk_data))]
-fn walk_value(alloc: Global, walk: &Walk) -> Result<Value, AllocError>
-    ensures { IfOk result (λ v. view v ≡ walk_data walk.now) }
-{
-    let mut object = ObjectBuilder::new(alloc);
-    object.put_text("format", "shown walk");
-    object.put("version", Value::from(JSON_VERSION));
-    object.put_made("walk", path_value(alloc, walk.generals()));
-    object.finish()
-}
 
 /// Appends the lines of exhibits, of which the first begins at this byte. Returns the byte at which they end.
 fn push_exhibits(
@@ -67,28 +40,19 @@ fn push_exhibits(
     Ok(at)
 }
 
-/// Returns an end of this name.
-#[tactic(auto, unfolding(crate::specs::BundleData::end_data))]
-fn end_value(alloc: Global, name: &str) -> Result<Value, AllocError>
-    ensures { IfOk result (λ v. view v ≡ end_data name.now) }
+/// Appends the line of an end of this name.
+#[tactic(auto, using(crate::proofs::PlainShown::end_plain), unfolding(crate::specs::BundleData::end_data))]
+pub fn push_end(alloc: Global, out: &mut Vec<u8>, name: &str) -> Result<(), AllocError>
+    ensures { OnOk result (out.new.items ≡ out.old.items ++ json_line (end_data name.now)) }
 {
     let mut object = ObjectBuilder::new(alloc);
     object.put_text("format", name);
     object.put("version", Value::from(JSON_VERSION));
-    object.finish()
-}
-
-/// Appends the line of an end of this name.
-#[tactic(auto, using(crate::proofs::PlainShown::end_plain))]
-pub fn push_end(alloc: Global, out: &mut Vec<u8>, name: &str) -> Result<(), AllocError>
-    ensures { OnOk result (out.new.items ≡ out.old.items ++ json_line (end_data name.now)) }
-{
-    let value = end_value(alloc, name)?;
-    push_value(alloc, out, &value)
+    push_value(alloc, out, &object.finish()?)
 }
 
 /// Appends the lines of a bundle that begins at this byte of a file. Returns the byte at which it ends.
-#[tactic(auto, using(crate::proofs::PlainShown::faulty_plain, crate::proofs::PlainShown::walk_plain), unfolding(crate::specs::BundleData::bundle_lines))]
+#[tactic(auto, using(crate::proofs::PlainShown::faulty_plain, crate::proofs::PlainShown::walk_plain), unfolding(crate::specs::BundleData::bundle_lines, crate::specs::BundleData::faulty_data, crate::specs::BundleData::walk_data))]
 pub fn push_bundle(
     alloc: Global,
     out: &mut Vec<u8>,
@@ -101,12 +65,18 @@ pub fn push_bundle(
 {
     let header = bundle.header();
     push_header(alloc, out, "bundle", header)?;
-    let faulty = faulty_value(alloc, bundle.faulty())?;
-    push_value(alloc, out, &faulty)?;
+    let mut faulty = ObjectBuilder::new(alloc);
+    faulty.put_made("faulty", set_value(alloc, bundle.faulty()));
+    faulty.put_text("format", "shown faulty");
+    faulty.put("version", Value::from(JSON_VERSION));
+    push_value(alloc, out, &faulty.finish()?)?;
     let walks = bundle.walks().as_slice();
     for walk in walks {
-        let value = walk_value(alloc, walk)?;
-        push_value(alloc, out, &value)?;
+        let mut object = ObjectBuilder::new(alloc);
+        object.put_text("format", "shown walk");
+        object.put("version", Value::from(JSON_VERSION));
+        object.put_made("walk", path_value(alloc, walk.generals()));
+        push_value(alloc, out, &object.finish()?)?;
     }
     let start = at + bundle_front_length(alloc, bundle)?;
     let end = push_exhibits(alloc, out, header, start, bundle.exhibits())?;
@@ -114,21 +84,9 @@ pub fn push_bundle(
     Ok(end)
 }
 
-/// Returns the run of a campaign: its place, and the byte at which its bundle begins.
-#[tactic(auto, unfolding(crate::specs::BundleData::place_data))]
-fn place_value(alloc: Global, place: usize, at: usize) -> Result<Value, AllocError>
-    ensures { IfOk result (λ v. view v ≡ place_data place at) }
-{
-    let mut object = ObjectBuilder::new(alloc);
-    object.put("byte", Value::from(at));
-    object.put_text("format", "shown run");
-    object.put("place", Value::from(place));
-    object.put("version", Value::from(JSON_VERSION));
-    object.finish()
-}
-
-/// Appends the lines of the bundles of a campaign's runs, of which the first begins at this byte.
-#[tactic(auto, using(crate::proofs::PlainShown::place_plain))]
+/// Appends the lines of the bundles of a campaign's runs, of which the first begins at this byte: of each its place, the
+/// byte at which it begins, and what it says.
+#[tactic(auto, using(crate::proofs::PlainShown::place_plain), unfolding(crate::specs::BundleData::place_data))]
 pub fn push_runs(
     alloc: Global,
     out: &mut Vec<u8>,
@@ -140,8 +98,12 @@ pub fn push_runs(
 {
     let mut at = start;
     for place in 0..bundles.len() {
-        let value = place_value(alloc, place, at)?;
-        push_value(alloc, out, &value)?;
+        let mut object = ObjectBuilder::new(alloc);
+        object.put("byte", Value::from(at));
+        object.put_text("format", "shown run");
+        object.put("place", Value::from(place));
+        object.put("version", Value::from(JSON_VERSION));
+        push_value(alloc, out, &object.finish()?)?;
         at = push_bundle(alloc, out, at, &bundles[place])?;
     }
     Ok(())

@@ -2,9 +2,8 @@
 ghost use Rattle.std.specs.Prelude.{◌≡◌, ◌==◌, IfOk, map};
 ghost use Rattle.std.specs.List.{list_any};
 ghost use Rattle.serde_json.specs.View.{view};
-ghost use Rattle.gen_types.specs.Ends.{is_among};
 ghost use Rattle.gen_convict.specs.Evidence.{told_of};
-ghost use Rattle.gen_json.specs.StatusData.{names, statuses_data, status_data, status_of, status_word};
+ghost use Rattle.gen_json.specs.StatusData.{names, statuses_data, status_of, status_word};
 
 use crate::objects::ObjectBuilder;
 use gen_convict::Evidence;
@@ -66,27 +65,13 @@ fn is_named(findings: &[Finding], general: GeneralNo) -> bool
     findings.iter().any(|finding| names(general, finding))
 }
 
-/// Returns whether one of the convictions accuses a general.
-fn is_accused(convictions: &[Evidence], general: GeneralNo) -> bool
-    ensures { result ≡ list_any (λ e. e.accused == general) convictions.now }
-{
-    convictions
-        .iter()
-        .any(|evidence| evidence.accused == general)
-}
-
 /// Returns whether one of the convictions is the general's.
 fn is_convicted(convictions: &[Evidence], general: GeneralNo) -> bool
     ensures { result ≡ list_any (λ x. x.accused == general) (map told_of convictions.now) }
 {
-    is_accused(convictions, general)
-}
-
-/// Returns whether a general is held for faulty.
-fn is_held(faulty: &GeneralSet, general: GeneralNo) -> bool
-    ensures { result ≡ is_among faulty.now general }
-{
-    faulty.contains(general)
+    convictions
+        .iter()
+        .any(|evidence| evidence.accused == general)
 }
 
 /// Returns what findings and convictions, and the list of those that are held for faulty, say of a general.
@@ -100,23 +85,13 @@ pub fn status_of(
 {
     if is_convicted(convictions, general) {
         Status::Convicted
-    } else if is_held(faulty, general) {
+    } else if faulty.contains(general) {
         Status::Held
     } else if is_named(findings, general) {
         Status::Suspected
     } else {
         Status::Trusted
     }
-}
-
-/// Returns a general and the word for its status.
-fn status_value(alloc: Global, general: u8, status: Status) -> Result<Value, AllocError>
-    ensures { IfOk result (λ v. view v ≡ status_data general status) }
-{
-    let mut object = ObjectBuilder::new(alloc);
-    object.put("general", Value::from(general));
-    object.put_text("status", status.word());
-    object.finish()
 }
 
 /// Returns the list of the statuses of all generals of a network.
@@ -133,7 +108,10 @@ pub(crate) fn statuses_value(
     let mut list = Vec::new(alloc);
     for number in 0..net.generals() {
         let status = status_of(faulty, findings, convictions, GeneralNo::at(number));
-        let value = status_value(alloc, number, status)?;
+        let mut object = ObjectBuilder::new(alloc);
+        object.put("general", Value::from(number));
+        object.put_text("status", status.word());
+        let value = object.finish()?;
         serde_json::push(&mut list, value)?;
     }
     Ok(Value::Array(list))

@@ -19,34 +19,17 @@ use gen_types::GeneralSet;
 use serde_json::Value;
 use std::alloc::{AllocError, Global};
 
-/// Returns the word for a verdict.
-fn verdict_word(verdict: &Verdict) -> &'static str
-    ensures { result.now ≡ verdict_word verdict.now }
+/// Returns the word for a verdict; the order that was agreed on, and null if the verdict is another; and the decisions of
+/// a verdict that all is explained, and none of another.
+fn parts(verdict: &Verdict) -> (&'static str, Value, &[Decision])
+    ensures word { result.0.now ≡ verdict_word verdict.now }
+    ensures order { view result.1 ≡ order_data verdict.now }
+    ensures decisions { result.2.now ≡ decisions_in verdict.now }
 {
     match verdict {
-        Verdict::Agreed(_) => "agreed",
-        Verdict::Explained(_) => "explained",
-        Verdict::No(_) => "no",
-    }
-}
-
-/// Returns the order that was agreed on, and null if the verdict is another.
-fn order_value(verdict: &Verdict) -> Value
-    ensures { view result ≡ order_data verdict.now }
-{
-    match verdict {
-        Verdict::Agreed(order) => Value::from(order.get()),
-        Verdict::Explained(_) | Verdict::No(_) => Value::Null,
-    }
-}
-
-/// Returns the decisions of a verdict that all is explained; none of another verdict.
-fn decisions_in(verdict: &Verdict) -> &[Decision]
-    ensures { result.now ≡ decisions_in verdict.now }
-{
-    match verdict {
-        Verdict::Explained(decisions) => decisions.as_slice(),
-        Verdict::Agreed(_) | Verdict::No(_) => &[],
+        Verdict::Agreed(order) => ("agreed", Value::from(order.get()), &[]),
+        Verdict::Explained(decisions) => ("explained", Value::Null, decisions.as_slice()),
+        Verdict::No(_) => ("no", Value::Null, &[]),
     }
 }
 
@@ -60,24 +43,24 @@ pub(crate) fn judgement_value(
     ensures { IfOk result (λ v. view v ≡ judgement_data header.now faulty.now
         judgement.now.verdict (map told_of judgement.now.convictions.items)) }
 {
-    let verdict = &judgement.verdict;
-    let findings = verdict.findings();
+    let (word, order, decisions) = parts(&judgement.verdict);
+    let findings = judgement.verdict.findings();
     let accused = judgement.convictions.as_slice();
     let net = header.net();
     let mut object = ObjectBuilder::new(alloc);
     object.put_made("convictions", convictions_value(alloc, accused));
-    object.put_made("decisions", all_decided_value(alloc, decisions_in(verdict)));
+    object.put_made("decisions", all_decided_value(alloc, decisions));
     object.put_made("faulty", set_value(alloc, faulty));
     object.put_made("findings", findings_value(alloc, findings));
     object.put_text("format", "verdict");
     object.put_made("network", network_value(alloc, net));
-    object.put("order", order_value(verdict));
+    object.put("order", order);
     object.put_made("run", digits_value(alloc, header.run_id()));
     object.put_made(
         "statuses",
         statuses_value(alloc, net, faulty, findings, accused),
     );
-    object.put_text("verdict", verdict_word(verdict));
+    object.put_text("verdict", word);
     object.put("version", Value::from(JSON_VERSION));
     object.finish()
 }
