@@ -1,5 +1,5 @@
 -- The bundles of the runs of a campaign, and their bytes.
-use Rattle.std.proofs.Common.{◌≡◌, ◌≤◌, ◌++◌, ◌∙◌, ℕ, Bool, true, false, List, [], ◌∷◌, length, map, Ok, refl, sym, ap, subst, arith, Result}
+use Rattle.std.proofs.Common.{◌≡◌, ◌≤◌, ◌++◌, ◌∙◌, ℕ, Bool, true, false, List, [], ◌∷◌, length, map, Ok, refl, ap, arith, Result}
 use Rattle.std.specs.Int.{w32, to_be_bytes}
 use Rattle.std.specs.List.{AllZip, flat_map}
 use Rattle.std.proofs.lemmas.List.{length-map}
@@ -8,7 +8,7 @@ use Rattle.gen_types.specs.Reading.{◌>>=◌, check}
 use Rattle.gen_scenario.specs.Scenario.{Scenario}
 use Rattle.gen_audit.specs.Bundle.{Bundle}
 use Rattle.gen_audit.specs.BundleSpelling.{bundle_spelling}
-use Rattle.gen_campaign.specs.CampaignSpelling.{campaign_mark, campaign_spelling}
+use Rattle.gen_campaign.specs.CampaignSpelling.{campaign_mark}
 use Rattle.gen_campaign.specs.Campaign.{is_run_count}
 use Rattle.gen_campaign.specs.Series.{are_alike, ascend_from, campaign_of}
 use Rattle.gen_campaign.specs.declared.series_fault.SeriesFault.{SeriesFault}

@@ -84,12 +84,6 @@ pub record IsAudited (input text : List ℕ) (negative : Bool) : Type 0 where
   pub spelled : Spells IsCampaign campaign_spelling input shown
   pub audits : AuditsShown Text shown.alone shown.bundles text negative
 
--- memory was refused, or a thread was
-abbrev pub IsWant : JobFault → Type 0
-IsWant faults.Memory = Unit {0}
-IsWant faults.Thread = Unit {0}
-IsWant _ = ⊥
-
 -- the first fault of an input that spells no campaign and no bundle; or memory was refused, or a thread was
 abbrev pub IsAuditFault : List ℕ → JobFault → Type 0
 IsAuditFault input faults.Memory = Unit {0}

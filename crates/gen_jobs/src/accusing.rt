@@ -1,10 +1,9 @@
 //! The job `accuse`: writes the evidence against a general.
 ghost use Rattle.std.specs.Prelude.{◌≡◌, ◌==◌, IfOk, IfErr, IfSome, find, map, option_map};
-ghost use Rattle.gen_convict.specs.Convictions.{AreEvidence};
 ghost use Rattle.gen_convict.specs.Evidence.{told_of};
 ghost use Rattle.gen_convict.specs.AcrossLaws.{AreConvictedAcross, AreEvidenceAcross};
 ghost use Rattle.gen_campaign.specs.Judged.{AreJudged, shown_bundles};
-ghost use Rattle.gen_jobs.specs.Accusing.{AccusesRuns, AccusesWithin, AreOfRuns, IsAccused, TellsAcross, TellsOf};
+ghost use Rattle.gen_jobs.specs.Accusing.{AccusesRuns, AccusesWithin, AreOfRuns, IsAccused, TellsAcross};
 ghost use Rattle.gen_jobs.specs.Answering.{Answers};
 ghost use Rattle.gen_jobs.specs.Asking.{IsAccusedOf, IsShowFault};
 ghost use Rattle.gen_jobs.specs.Audit.{IsAuditFault};
@@ -19,7 +18,6 @@ use gen_campaign::{
     CampaignBundle, CampaignVerdict, audit_campaign, read_campaign, read_taken_campaign,
 };
 use gen_convict::{Claim, Evidence, write_evidence};
-use gen_net::Header;
 use gen_types::GeneralNo;
 use std::alloc::{AllocError, Global};
 use std::io::{Read, Write};

@@ -1,8 +1,7 @@
 //! The text of a bundle, kept in pieces so that its logs need no copy.
-ghost use Rattle.std.specs.Prelude.{◌≡◌, ◌<◌, ◌^◌, All, length, IfOk, OnOk};
-ghost use Rattle.std.specs.List.{flat_map};
+ghost use Rattle.std.specs.Prelude.{◌≡◌, IfOk, OnOk};
 ghost use Rattle.std.specs.Io.KnownBytes.{Appends};
-ghost use Rattle.gen_audit.specs.BundleSpelling.{bundle_spelling, exhibit_spelling};
+ghost use Rattle.gen_audit.specs.BundleSpelling.{bundle_spelling};
 ghost use Rattle.gen_jobs.specs.Answering.{DeliversText};
 
 use crate::ends::{JobEnd, JobFault};

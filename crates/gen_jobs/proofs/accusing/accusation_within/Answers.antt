@@ -1,4 +1,4 @@
-use Rattle.std.proofs.Common.{[], List, false, map, take, true, refl, subst, arith}
+use Rattle.std.proofs.Common.{[], List, false, map, true, refl, subst, arith}
 use Rattle.std.specs.Prelude.{All}
 use Rattle.std.proofs.lemmas.List.{take_all}
 use Rattle.gen_net.specs.Header.{RunHeader}

@@ -1,4 +1,4 @@
-use Rattle.std.proofs.Common.{◌∙◌, ℕ, List, refl, subst, arith}
+use Rattle.std.proofs.Common.{◌∙◌, List, refl, subst, arith}
 use Rattle.gen_scenario.specs.Scenario.{Scenario}
 use Rattle.gen_jobs.specs.Campaigning.{AreTextsOf}
 use Rattle.gen_jobs.proofs.RunsOf.{few_texts, makes_texts}
