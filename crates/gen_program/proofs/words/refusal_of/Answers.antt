@@ -1,7 +1,6 @@
 use Rattle.std.proofs.Common.{rules, ◌≡◌, ◌&&◌, Bool, true, false, refl, option_map, if◌then◌else◌}
 use Rattle.gen_program.specs.Jobs.{number_between}
 use Rattle.gen_program.specs.Tool.{is_missing, takes_capacity, takes_faulty, takes_general, takes_runs, takes_slot, takes_workers}
-use Rattle.gen_program.specs.declared.words.WordsFault.{WordsFault}
 use Rattle.gen_program.specs.declared.words.WordsFault.TheVariants.{NoCommand, BadCapacity, BadWorkers, BadGeneral, BadSlot, BadRun, BadFaulty}
 use Rattle.gen_program.proofs.words.refusal_of.Goals as goal
 
