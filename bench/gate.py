@@ -1,16 +1,16 @@
 #!/usr/bin/env python3
-"""Runs the gate, `rt ci`, and keeps where its processor time went.
+"""Runs the gate, `rt ci`, from nothing, and keeps where its processor time went.
 
     python3 bench/gate.py run [FILE]      at the top of the repository, with the kit's rt on the path
     python3 bench/gate.py table [FILE]    prints the table of what a run kept
 
-The gate runs as ever, in this process, and its last line is its own. FILE, which is bench/gate.csv where none is named, then
+The gate runs in this process, takes nothing from earlier runs, and its last line is its own. FILE, which is bench/gate.csv where none is named, then
 has a row for each crate and step: the step is `proof`, `tests` (which prove the crate again, and run) or `edits` (all of the
 crate's must-fail edits, with the check that they begin with and the one that they end with), and its seconds are processor
 seconds, user and system. They are those that the system counted for each program that the gate started, so other work on the
 machine changes them little. The row `toolchain` has what the gate's own process took, and the row `all` the whole, once as
 processor seconds and once, as the step `wall`, as seconds of wall time. Each row has the kit, the number of cores, the date and
-the commit, which is empty where git does not tell it. How a step is told from another depends on the kit, so other kits than
+the commit. The sources have to be those of the commit, and a file without a commit is none of these: it is refused. How a step is told from another depends on the kit, so other kits than
 those that this was tried with are refused.
 """
 import collections
@@ -28,7 +28,34 @@ import time
 FILE = os.path.join(os.path.dirname(os.path.abspath(__file__)), "gate.csv")
 COLUMNS = ["crate", "step", "seconds", "kit", "cores", "date", "commit"]
 STEPS = ["proof", "tests", "edits"]
-KITS = ("rattle-kit-13b", "rattle-kit-13f")
+# The kits, each with the words by which its gate takes nothing from earlier runs.
+KITS = {"rattle-kit-13b": ["ci"], "rattle-kit-13f": ["ci", "--anew"]}
+COMMIT_AND_CHANGES = (["rev-parse", "--short=12", "HEAD"], ["status", "--porcelain", "--untracked-files=no"])
+
+
+class Refused(Exception):
+    """Why nothing is measured, or told of a file, in one line."""
+
+
+def commit_here():
+    """The commit that is checked out, from which no file that git knows may differ."""
+    told = [subprocess.run(["git", *words], capture_output=True, text=True, check=False) for words in COMMIT_AND_CHANGES]
+    if any(it.returncode for it in told):
+        raise Refused("git tells no commit, so nothing would say what was measured")
+    if told[1].stdout:
+        raise Refused("files differ from the commit: commit them first")
+    return told[0].stdout.strip()
+
+
+def read_kept(file):
+    """The first row of a kept run, and its seconds by crate and step. A file without a commit is refused."""
+    with open(file, encoding="utf-8", newline="") as kept:
+        rows = list(csv.DictReader(kept))
+    commits = {it.get("commit") for it in rows}
+    if len(commits) != 1 or not all(commits):
+        said = "names no commit" if not any(commits) else "is of several commits"
+        raise Refused(f"{os.path.relpath(file)} {said}: measure anew by bench/gate.py run")
+    return rows[0], {(it["crate"], it["step"]): int(it["seconds"]) for it in rows}
 
 
 def load_gate():
@@ -83,10 +110,10 @@ def run_gate(file):
     spent, since = collections.defaultdict(float), time.monotonic()
     kit = subprocess.run(["rt", "version"], capture_output=True, text=True, check=True).stdout.split()[0]
     if kit not in KITS:
-        sys.exit(f"gate: the toolchain is {kit}, and this was tried with {' and '.join(KITS)} alone")
-    commit = subprocess.run(["git", "rev-parse", "--short", "HEAD"], capture_output=True, text=True).stdout.strip()
+        raise Refused(f"the toolchain is {kit}, and this was tried with {' and '.join(KITS)} alone")
+    commit = commit_here()
     subprocess.Popen = counting(spent)
-    status = load_gate().main(["ci"])
+    status = load_gate().main(KITS[kit])
     sys.stdout.flush()
     own, of_all = (resource.getrusage(it) for it in (resource.RUSAGE_SELF, resource.RUSAGE_CHILDREN))
     taken = own.ru_utime + own.ru_stime
@@ -103,9 +130,7 @@ def run_gate(file):
 
 def print_table(file):
     """Prints the table of a kept run, the dearest crates first."""
-    with open(file, encoding="utf-8", newline="") as kept:
-        rows = list(csv.DictReader(kept))
-    seconds = {(it["crate"], it["step"]): int(it["seconds"]) for it in rows}
+    first, seconds = read_kept(file)
     crates = {crate: sum(seconds.get((crate, it), 0) for it in STEPS) for crate, _ in seconds if crate != "all"}
     print("| Crate | proof s | tests s | edits s | all s |\n|---|---|---|---|---|")
     for crate in sorted(crates, key=lambda it: -crates[it]):
@@ -113,10 +138,8 @@ def print_table(file):
         print(f"| {crate} | {' | '.join(cells)} | {crates[crate]} |")
     sums = [sum(seconds.get((crate, it), 0) for crate in crates) for it in STEPS]
     print(f"| all | {' | '.join(str(it) for it in sums)} | {sum(sums)} |")
-    first = rows[0]
-    wall = seconds.get(("all", "wall"))
-    told = f" and {wall / 60:.0f} minutes of wall time" if wall else ""
-    print(f"\n{seconds['all', 'all'] / 60:.0f} processor minutes{told}, {first['kit']}, {first['cores']} cores, {first['date']}")
+    told = f"{seconds['all', 'all'] / 60:.0f} processor minutes and {seconds['all', 'wall'] / 60:.0f} minutes of wall time"
+    print(f"\n{told}, {first['kit']}, {first['cores']} cores, {first['date']}, commit {first['commit']}")
 
 
 def main():
@@ -124,10 +147,10 @@ def main():
     if len(words) not in (1, 2) or words[0] not in ("run", "table"):
         sys.exit(__doc__)
     file = os.path.abspath(words[1]) if len(words) > 1 else FILE
-    if words[0] == "run":
-        return run_gate(file)
-    print_table(file)
-    return 0
+    try:
+        return run_gate(file) if words[0] == "run" else print_table(file)
+    except (Refused, OSError) as why:
+        return f"gate: {why}"
 
 
 if __name__ == "__main__":

@@ -6,7 +6,7 @@
        answers decide [--json]
        answers accuse --general GENERAL [--run IDS]
        answers show [--json] [--run IDS]
-       answers explain|words|run-ids
+       answers explain|words|plan|run-ids
 
    IDS are one to four run ids of 64 hexadecimal digits, with commas between them. `explain` reads the name from
    standard input, and `run-ids` writes the IDS of a file. The exit status is that of sm_tool, and so is the line of
@@ -119,6 +119,7 @@ static uint32_t call(const struct job *job, struct bytes input, sm_answer *answe
     }
     if (strcmp(job->name, "explain") == 0) return sm_explain(input.at, input.length, answer);
     if (strcmp(job->name, "words") == 0) return sm_words(input.at, input.length, answer);
+    if (strcmp(job->name, "plan") == 0) return sm_plan(input.at, input.length, answer);
     return SM_MISUSE;
 }
 

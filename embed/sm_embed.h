@@ -181,13 +181,19 @@ uint32_t sm_show_as(const uint8_t *runs, size_t run_count, uint32_t form, const 
                     sm_answer *answer) SM_CALL(1, 4, 6);
 
 /* What a name means, as sm_tool explain: that of a fault, a finding, a kind of conviction, a verdict or a status, as
-   `H3`, `N8`, `K2`, `agreed` or `status 1`, without a line feed. docs/WORDS.md has the names. The answer is a no of 0
-   bytes if and only if it is no such name. Returns SM_OK, SM_NO, SM_MISUSE or SM_MEMORY. */
+   `H3`, `N8`, `K2`, `agreed` or `status 1`, without a line feed. docs/WORDS.md has the names, and so has the answer to
+   an input of 0 bytes, a line each. The answer is a no of 0 bytes if and only if it is no such name. Returns SM_OK, SM_NO, SM_MISUSE or SM_MEMORY. */
 uint32_t sm_explain(const uint8_t *input, size_t input_bytes, sm_answer *answer) SM_CALL(1, 3);
 
 /* A text with what each of its lines means behind the line, as sm_tool words: the text of an answer, or the line of a
    fault with a line feed. The answer is never a no. Returns SM_OK, SM_MISUSE or SM_MEMORY. */
 uint32_t sm_words(const uint8_t *input, size_t input_bytes, sm_answer *answer) SM_CALL(1, 3);
+
+/* Whether the plan of a run holds, as sm_tool plan: whether its network withstands the faulty nodes (generals) that it is
+   planned for, and how long its frames and logs can be. The input is a header, its text for version 1, a bundle or a
+   campaign, of which the first header is taken. The answer is a no if the plan fails. Returns SM_OK, SM_NO, SM_MISUSE,
+   SM_FAULT or SM_MEMORY. */
+uint32_t sm_plan(const uint8_t *input, size_t input_bytes, sm_answer *answer) SM_CALL(1, 3);
 
 /* Writes the text or line that an answer holds. The answer keeps it. If the room has 0 bytes, *count tells the length.
 
@@ -274,6 +280,7 @@ static inline uint32_t sm_no_answer(sm_answer *answer) {
 SM_CHECKED_ANSWER(show)
 SM_CHECKED_ANSWER(explain)
 SM_CHECKED_ANSWER(words)
+SM_CHECKED_ANSWER(plan)
 SM_CHECKED_RUNS(draw_of)
 SM_CHECKED_RUNS(evidence_of)
 SM_CHECKED_RUNS_NUMBER(audit_of)
@@ -335,6 +342,7 @@ SM_CALL(4) static inline uint32_t sm_checked_answer_text(sm_answer *answer, uint
 #define sm_show_as sm_checked_show_as
 #define sm_explain sm_checked_explain
 #define sm_words sm_checked_words
+#define sm_plan sm_checked_plan
 #define sm_answer_text sm_checked_answer_text
 #endif
 #endif

@@ -81,6 +81,7 @@ enum sm_node_fault {
     SM_LEFT_OVER = 12,  /* bytes are left over behind a header */
     SM_NO_GENERAL = 13, /* the number is none of the header's generals, or the order does not fit the general */
     SM_OTHER_ROOT = 14, /* the header has another root for the general than that of the seed's keys */
+    SM_EQUAL_ROOTS = 15, /* two generals have the same root */
     SM_F1 = 21, SM_F2, SM_F3, SM_F4, SM_F5, SM_F6, SM_F7, SM_F8, /* of a frame */
     SM_U1 = 31, SM_U2,  /* two generals that are not held for faulty have no walk, or none of at most d edges */
     /* Of a bundle. Only SM_B4, SM_B7 and SM_B9 can come, as no bundle is read, and the library makes the walks. A fault
@@ -100,6 +101,11 @@ typedef struct {
     uint8_t version, slot, generals, traitors, diameter, orders, choice;
 } sm_numbers;
 
+/* Two generals. */
+typedef struct {
+    uint32_t first, second;
+} sm_pair;
+
 /* The general that a log is said to be of, and how many bytes the log has. */
 typedef struct {
     uint32_t general;
@@ -115,10 +121,11 @@ uint32_t sm_node_root(const uint8_t seed[32], uint32_t version, uint8_t root[32]
 /* Writes the bytes of the header of these numbers, edges and roots: at most 8 + 2 * edge_count + 32 * root_count. An
    edge is two bytes, and the edges come in any order and direction. A root is 32 bytes, and the roots come in the order
    of their generals. H1 to H7 are reported first, then H10 for a version other than 1 or 2, then H8 for another number
-   of roots, then H11. Returns SM_OK, SM_MISUSE, SM_FAULT, SM_MEMORY or SM_LENGTH. */
+   of roots, then H11. SM_EQUAL_ROOTS comes last: then *equal is the least pair of generals that have the same root, the
+   lesser one first. Otherwise it is 0 and 0. Returns SM_OK, SM_MISUSE, SM_FAULT, SM_MEMORY or SM_LENGTH. */
 uint32_t sm_node_header(const sm_numbers *numbers, const uint8_t *edges, size_t edge_count, const uint8_t *roots,
-                        size_t root_count, uint8_t *room, size_t room_bytes, size_t *count, uint32_t *fault)
-    SM_CALL(1, 2, 4, 6, 8, 9);
+                        size_t root_count, uint8_t *room, size_t room_bytes, size_t *count, uint32_t *fault,
+                        sm_pair *equal) SM_CALL(1, 2, 4, 6, 8, 9, 10);
 
 /* Makes a node of a header's bytes, the number of a general, the general's seed, and the order if the general is the
    commander, else SM_NO_ORDER. SM_MISUSE if a node is there already, the general is above 15, or the order is neither 0
@@ -258,6 +265,7 @@ static inline const char *sm_node_fault_text(uint32_t fault) {
     case SM_LEFT_OVER: return "bytes are left over behind the header";
     case SM_NO_GENERAL: return "the number is none of the header's generals, or the order does not fit the general";
     case SM_OTHER_ROOT: return "the header has another root for the general than that of the seed's keys";
+    case SM_EQUAL_ROOTS: return "two generals have the same root";
     case SM_F1: return "no frame of this general is awaited";
     case SM_F2: return "the frame of this general was taken before";
     case SM_F3: return "the bytes end before the frame does";
@@ -284,17 +292,18 @@ static inline const char *sm_node_fault_text(uint32_t fault) {
 
 /* Null pointers are tested before the call of the archive. With SM_UNCHECKED the archive is called at once. */
 #ifndef SM_UNCHECKED
-SM_CALL(1, 8, 9)
+SM_CALL(1, 8, 9, 10)
 static inline uint32_t sm_checked_node_header(const sm_numbers *numbers, const uint8_t *edges, size_t edge_count,
                                               const uint8_t *roots, size_t root_count, uint8_t *room, size_t room_bytes,
-                                              size_t *count, uint32_t *fault) {
+                                              size_t *count, uint32_t *fault, sm_pair *equal) {
     uint8_t none[3] = {0, 0, 0};
     *count = 0;
     *fault = 0;
+    equal->first = equal->second = 0;
     if (sm_is_missing(edges, edge_count) || sm_is_missing(roots, root_count)) return SM_MISUSE;
     if (sm_is_missing(room, room_bytes)) return SM_MISUSE;
     return sm_node_header(numbers, edges ? edges : none, edge_count, roots ? roots : none + 1, root_count,
-                          room ? room : none + 2, room_bytes, count, fault);
+                          room ? room : none + 2, room_bytes, count, fault, equal);
 }
 SM_CALL(1, 5, 7)
 static inline uint32_t sm_checked_node_new(sm_node *node, const uint8_t *header, size_t header_bytes, uint32_t general,

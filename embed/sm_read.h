@@ -64,11 +64,18 @@ typedef struct {
     const uint8_t *findings;
 } sm_verdict;
 
-/* The verdict on a bundle, which has one run, or on a campaign, which has 1 to 4 and convictions across two of them. */
+/* Two generals that have the same root, the lesser one first. */
 typedef struct {
-    uint32_t is_campaign, run_count, across_count;
+    uint32_t first, second;
+} sm_equal_roots;
+
+/* The verdict on a bundle, which has one run, or on a campaign, which has 1 to 4 and convictions across two of them.
+   Equal roots are told if the answer was asked for strictly. */
+typedef struct {
+    uint32_t is_campaign, run_count, across_count, equal_count;
     sm_verdict runs[SM_RUNS_MOST];
     sm_across across[SM_GENERALS_MOST];
+    sm_equal_roots equal[SM_GENERALS_MOST * (SM_GENERALS_MOST - 1) / 2];
 } sm_judgement;
 
 /* What a general decides in the run of a scenario: the set of the orders that it accepted, bit v for order v, and the
@@ -239,6 +246,18 @@ static inline int sm_scan_across(sm_scan *scan, sm_judgement *judgement) {
     return sm_scan_word(scan, "end campaign\n");
 }
 
+/* Takes the lines of equal roots. */
+static inline int sm_scan_equal(sm_scan *scan, sm_judgement *judgement) {
+    const uint32_t most = sizeof judgement->equal / sizeof judgement->equal[0];
+    while (sm_scan_any(scan, "equal roots ")) {
+        sm_equal_roots *next = &judgement->equal[judgement->equal_count];
+        if (judgement->equal_count++ == most) return 0;
+        if (!sm_scan_number(scan, SM_GENERALS_MOST, &next->first)) return 0;
+        if (!sm_scan_field(scan, " ", SM_GENERALS_MOST, &next->second) || !sm_scan_word(scan, "\n")) return 0;
+    }
+    return 1;
+}
+
 static inline uint32_t sm_read_judgement(const uint8_t *text, size_t text_bytes, sm_judgement *judgement) {
     const uint8_t none = 0;
     sm_scan scan = {text_bytes != 0 ? text : &none, text_bytes != 0 ? text + text_bytes : &none};
@@ -253,6 +272,7 @@ static inline uint32_t sm_read_judgement(const uint8_t *text, size_t text_bytes,
     for (uint32_t run = 0; run < judgement->run_count; run++)
         if (!sm_scan_verdict(&scan, &judgement->runs[run])) return SM_FAULT;
     if (judgement->is_campaign != 0 && !sm_scan_across(&scan, judgement)) return SM_FAULT;
+    if (!sm_scan_equal(&scan, judgement)) return SM_FAULT;
     return scan.at == scan.end ? SM_OK : SM_FAULT;
 }
 

@@ -101,6 +101,8 @@ static int print_judgement(struct bytes text) {
                it->second_run);
     }
     if (judgement.is_campaign) printf("end campaign\n");
+    for (uint32_t place = 0; place < judgement.equal_count; place++)
+        printf("equal roots %" PRIu32 " %" PRIu32 "\n", judgement.equal[place].first, judgement.equal[place].second);
     return 1;
 }
 

@@ -3,22 +3,36 @@
 from __future__ import annotations
 
 import contextlib
+import errno
 import os
 import sys
 from typing import Callable, List, Tuple
 
 sys.path.insert(0, os.path.dirname(os.path.abspath(__file__)))
 
-from model.command import LONGEST_INPUT, WRITE_BYTES, Job, answer_job, answer_words, job_asked  # noqa: E402
+from model.command import (LONGEST_INPUT, WRITE_BYTES, Job, answer_job, answer_words, called, failed, job_asked,  # noqa: E402
+                           not_read)
 
 
 PIECE = 1 << 20
-OPEN_FAILED, READ_FAILED = (5, b"", b"open failed\n"), (5, b"", b"read failed\n")
+# What the system says, where that is told in other words (FORMATS.md#the-programs-answers).
+REASONS = {errno.ENOENT: "no such file", errno.EISDIR: "is a folder", errno.EACCES: "permission denied",
+           errno.EPERM: "permission denied", errno.ENOSPC: "no space is left"}
 TO_TERMINAL = 2, b"", b"error: bytes are not written to a terminal; for more, try '--help'\n"
 
 
 class NotOpened(Exception):
-    """A file that could not be opened."""
+    """A file that could not be opened, with what the system said."""
+
+
+class NotRead(Exception):
+    """An input that could not be read, with what was read of it, and with what the system said."""
+
+
+def reason(error: OSError) -> str:
+    """What the system said, in words (FORMATS.md#the-programs-answers)."""
+    number = error.errno or 0
+    return REASONS.get(number) or f"{os.strerror(number)} (os error {number})"
 
 
 def answer(words: List[str], given: bytes) -> Tuple[int, bytes, bytes]:
@@ -32,31 +46,44 @@ def answer(words: List[str], given: bytes) -> Tuple[int, bytes, bytes]:
 
 def answer_files(job: Job, standard: Callable[[], bytes]) -> Tuple[int, bytes, bytes]:
     """The status, the standard output and the standard error of a job on its files, which are read in the order of the words."""
-    try:
-        return answer_job(job, [whole(standard() if name == "-" else read_file(name)) for name in job.sources()])
-    except NotOpened:
-        return OPEN_FAILED
-    except OSError:
-        return READ_FAILED
-
-
-def whole(given: bytes) -> bytes:
-    """An input that is not too long; to read one that is too long is a read that fails."""
-    if len(given) > LONGEST_INPUT:
-        raise OSError("an input is too long")
-    return given
+    inputs: List[bytes] = []
+    for name in job.sources():
+        try:
+            inputs.append(standard() if name == "-" else read_file(name))
+        except NotOpened as error:
+            return failed(job, 5, "open failed", f"cannot open {called(name)}: {reason(error.args[0])}\n", b"")
+        except NotRead as error:
+            return not_read(job, name, reason(error.args[1]), error.args[0])
+        if len(inputs[-1]) > LONGEST_INPUT:
+            break
+    return answer_job(job, inputs)
 
 
 def read_file(name: str) -> bytes:
     """The bytes of a file."""
     try:
         file = os.open(name, os.O_RDONLY)
-    except (OSError, ValueError):
-        raise NotOpened from None
+    except OSError as error:
+        raise NotOpened(error) from None
     try:
-        return b"".join(iter(lambda: os.read(file, PIECE), b""))
+        return read_whole(file)
     finally:
         os.close(file)
+
+
+def read_whole(file: int) -> bytes:
+    """All bytes of a file that is open, or of one that is too long enough to see that."""
+    pieces: List[bytes] = []
+    length = 0
+    try:
+        for piece in iter(lambda: os.read(file, PIECE), b""):
+            pieces.append(piece)
+            length += len(piece)
+            if length > LONGEST_INPUT:
+                break
+    except OSError as error:
+        raise NotRead(b"".join(pieces), error) from None
+    return b"".join(pieces)
 
 
 def answer_here(words: List[str]) -> Tuple[int, bytes, bytes]:
@@ -79,8 +106,8 @@ def read_standard() -> bytes:
 def read_input() -> bytes:
     """Standard input to its end; to read one that is closed is a read that fails."""
     if sys.stdin is None:
-        raise OSError("standard input is closed")
-    return sys.stdin.buffer.read()
+        raise NotRead(b"", OSError(errno.EBADF, ""))
+    return read_whole(sys.stdin.fileno())
 
 
 def write_output(output: bytes) -> None:
@@ -88,7 +115,7 @@ def write_output(output: bytes) -> None:
     if not output:
         return
     if sys.stdout is None:
-        raise OSError("standard output is closed")
+        raise OSError(errno.EBADF, "")
     sys.stdout.buffer.write(output)
     sys.stdout.buffer.flush()
 
@@ -107,8 +134,8 @@ def main() -> int:
     status, output, error = answer_here(sys.argv[1:])
     try:
         write_output(output)
-    except OSError:
-        tell(b"write failed\n")
+    except OSError as failure:
+        tell(f"write failed\ncannot write standard output: {reason(failure)}\n".encode("ascii"))
         os._exit(5)
     if error:
         tell(error)

@@ -1,58 +1,84 @@
 #!/usr/bin/env python3
-"""Writes what bash, zsh and fish complete of the program's words, by docs/COMMANDS.md.
+"""Writes what bash, zsh and fish complete of the program's words.
 
     tools/completions.py FOLDER
 
 FOLDER gets share/bash-completion/completions/sm_tool, share/zsh/site-functions/_sm_tool and
-share/fish/vendor_completions.d/sm_tool.fish. The commands and their options are those of the document's section "Commands",
-and the values of an option are those that its section "Options" tells. Files are completed behind a command.
+share/fish/vendor_completions.d/sm_tool.fish. The commands and their options are those of docs/COMMANDS.md. What is said of
+each is the program's own line of help, which tells the values of an option too. Files are completed behind a command, and
+behind `explain` the names of docs/WORDS.md that are one word.
 """
 import os
 import re
 import sys
 
-from man import DOCUMENT, read
+from man import DOCUMENT, TOP, read
+from words import rows
 
 BASH, ZSH = "share/bash-completion/completions/sm_tool", "share/zsh/site-functions/_sm_tool"
 FISH = "share/fish/vendor_completions.d/sm_tool.fish"
+SOURCE = os.path.join(TOP, "crates", "gen_program", "src", "command_line.rt")
 # What stands beside the commands that have a section.
-OTHERS = {"help": "says what the program or a command takes"}
+OTHERS = {"help": "Says what the program or a command takes"}
 # The commands that take several files.
 SEVERAL = ("bundle", "answer")
-GLOBAL = {"--help": "says what is taken", "--version": "says the version"}
-HELP, FILE, FILES = "'--help[says what is taken]'", "'::file:_files'", "'*:file:_files'"
+GLOBAL = {"--help": "Says what is taken", "--version": "Says the version"}
+HELP, FILE, FILES = "'--help[Says what is taken]'", "'::file:_files'", "'*:file:_files'"
+
+
+def line_of_help(source, at, said):
+    """A line of help of the source, which stands at a place as a text, or as a name that has its text before."""
+    if said.startswith('"'):
+        return plain(said)
+    texts = re.findall(rf'\b{said}(?:: &str)? =\s*"([^"]*)"', source[:at])
+    return plain(texts[-1]) if texts else sys.exit(f"completions: {said} has no text in command_line.rt")
+
+
+def lines_of_help(source, form):
+    """The lines of help in the source, each by the name that stands before it in the form; of a name the first."""
+    found = {}
+    for call in re.finditer(form, source):
+        found.setdefault(call[1], line_of_help(source, call.start(), call[2]))
+    return found
 
 
 def commands():
-    """Each command with what it reads and its options, and each option with what it is and its values.
+    """Each command with what it does and its options, and each option with what it is and its values.
 
     The values are numbers, or the word for them where any can stand, or None where the option takes no value.
     """
-    text = read(DOCUMENT)
-    of_commands = {}
-    for head, said in re.findall(r"^### (.+)\n\nInputs?: ([^.]*)\.", text, re.MULTILINE):
-        of_commands[head.split()[0]] = ("reads " + plain(said.split(",")[0]), re.findall(r"--[\w-]+", head))
+    text, source = read(DOCUMENT), read(SOURCE)
+    heads = {head.split()[0]: re.findall(r"--[\w-]+", head) for head in re.findall(r"^### (.+)$", text, re.MULTILINE)}
+    does = lines_of_help(source, r'CommandBuilder::new\(\s*alloc,\s*"([\w-]+)",\s*(\w+)')
+    says = lines_of_help(source, r'(?:option|flag)_named\(\s*alloc,\s*"([\w-]+)",(?:\s*"[A-Z]+",)?\s*(\w+|"[^"]*")')
     options = {}
-    for name, value, said in re.findall(r"^`(--[\w-]+)( \w+)?`: ([^.:]*)[.:]", text, re.MULTILINE):
-        told, bounds = plain(said.split(",")[0]), re.search(r"(\d+) to (\d+)$", said)
+    for name, value in re.findall(r"^`(--[\w-]+)( \w+)?`:", text, re.MULTILINE):
+        told = says.get(name[2:], GLOBAL.get(name))
+        bounds = re.search(r"(\d+) to (\d+)$", told or "")
         options[name] = (told, range(int(bounds[1]), int(bounds[2]) + 1) if bounds else value.strip() or None)
-    lacking = {name for _, names in of_commands.values() for name in names} - set(options)
-    if lacking or not of_commands:
-        sys.exit(f"completions: docs/COMMANDS.md does not tell of {sorted(lacking) or 'any command'}")
-    return of_commands, options
+    lacking = {*heads} ^ {*does} | {name for names in heads.values() for name in names} - {*options}
+    if lacking or not heads:
+        sys.exit(f"completions: docs/COMMANDS.md and command_line.rt do not both tell of {sorted(lacking) or 'any command'}")
+    return {name: (does[name], names) for name, names in heads.items()}, options
+
+
+def names_of_words():
+    """The names that `explain` tells and that are one word."""
+    return [name for name, _form, _sentence in rows() if re.fullmatch(r"\w+", name)]
 
 
 def plain(text):
     """Words that no shell takes for more than words."""
-    return re.sub(r"[^\w ,.-]", "", text)
+    return re.sub(r"[^\w ,.-]", "", re.sub("[:;]", ",", text))
 
 
 def bash(of_commands, options):
     values = {name: spelled(values) for name, (_, values) in options.items() if values is not None}
     cases = [f"    {name}) COMPREPLY=($(compgen -W '{some}' -- \"$word\")); return ;;" for name, some in values.items()]
-    words = [f"    *:{name}) list='{' '.join([*names, '--help'])}' ;;" for name, (_, names) in of_commands.items()]
+    behind = {"explain": names_of_words()}
+    words = [f"    *:{name}) list='{' '.join([*behind.get(name, []), *names, '--help'])}' ;;" for name, (_, names) in of_commands.items()]
     return "\n".join([
-        "# What bash completes of sm_tool. Made by tools/completions.py of docs/COMMANDS.md.",
+        "# What bash completes of sm_tool. Made by tools/completions.py.",
         "_sm_tool() {",
         "    local word=${COMP_WORDS[COMP_CWORD]} list=",
         "    case ${COMP_WORDS[COMP_CWORD - 1]} in",
@@ -87,10 +113,11 @@ def zsh(of_commands, options):
     cases = []
     for name, (_, names) in of_commands.items():
         specs = [f"'{it}{zsh_said(*options[it])}'" for it in names]
-        cases.append(f"    {name}) _arguments {' '.join([*specs, HELP, FILES if name in SEVERAL else FILE])} ;;")
+        behind = f"'::name:({' '.join(names_of_words())})'" if name == "explain" else FILES if name in SEVERAL else FILE
+        cases.append(f"    {name}) _arguments {' '.join([*specs, HELP, behind])} ;;")
     return "\n".join([
         "#compdef sm_tool",
-        "# What zsh completes of sm_tool. Made by tools/completions.py of docs/COMMANDS.md.",
+        "# What zsh completes of sm_tool. Made by tools/completions.py.",
         "local -a commands=(",
         *(f"    '{name}:{said}'" for name, said in told.items()),
         ")",
@@ -110,7 +137,7 @@ def zsh(of_commands, options):
 
 
 def fish(of_commands, options):
-    lines = ["# What fish completes of sm_tool. Made by tools/completions.py of docs/COMMANDS.md."]
+    lines = ["# What fish completes of sm_tool. Made by tools/completions.py."]
     for name, said in ({name: said for name, (said, _) in of_commands.items()} | OTHERS).items():
         lines.append(f"complete -c sm_tool -n __fish_use_subcommand -f -a {name} -d '{said}'")
     lines += [f"complete -c sm_tool -l {name[2:]} -d '{said}'" for name, said in GLOBAL.items()]
@@ -120,7 +147,8 @@ def fish(of_commands, options):
             takes = "" if values is None else " -x" if isinstance(values, str) else f" -x -a '{spelled(values)}'"
             of = f"-n '__fish_seen_subcommand_from {name}' -l {it[2:]}{takes}"
             lines.append(f"complete -c sm_tool {of} -d '{said}'")
-    lines.append(f"complete -c sm_tool -n '__fish_seen_subcommand_from help' -f -a '{' '.join(of_commands)}'")
+    for name, words in (("help", of_commands), ("explain", names_of_words())):
+        lines.append(f"complete -c sm_tool -n '__fish_seen_subcommand_from {name}' -f -a '{' '.join(words)}'")
     return "\n".join([*lines, ""])
 
 

@@ -9,25 +9,12 @@ copy_sources() {
     # A source that changes from here on is newer than this file.
     touch "$copy/begun" && mkdir "$copy/tree" || exit 126
     tar -C "$top" --exclude=.git --exclude=out --exclude=__pycache__ --exclude=target -cf - . | tar -C "$copy/tree" -xf - || exit 126
+    python3 -B "$top/tools/built.py" write "$copy/tree" || exit 126
 }
 
 # The crates of the program in the copy: sm_tool and all that it stands on, each in a line.
 names_of_program() {
-    awk '{
-        sub(/#.*/, "")
-        if (split($0, parts, ":") < 2) next
-        split(parts[1], head, " ")
-        uses[head[1]] = parts[2]
-    }
-    END {
-        left[1] = "sm_tool"
-        for (at = last = 1; at <= last; at++) {
-            print left[at]
-            many = split(uses[left[at]], names, " ")
-            for (i = 1; i <= many; i++)
-                if (names[i] in uses && !seen[names[i]]++) left[++last] = names[i]
-        }
-    }' "$copy/tree/crates.txt"
+    python3 -B "$top/tools/crates.py" "$copy/tree" sm_tool
 }
 
 # Puts the program that was proved and built in the copy to out/, with the sources that it was made of: ./sm_tool takes it for

@@ -5,6 +5,8 @@ import os
 import re
 import time
 
+from version import short
+
 FIELDS = """Package: vamuretu
 Version: {version}
 Architecture: amd64
@@ -99,8 +101,8 @@ def put_control(root, tree, version):
     write(f"{root}/DEBIAN/control", FIELDS.format(version=version, kilobytes=kilobytes, glibc=glibc).encode())
     sums = (f"{hashlib.md5(read(f'{root}/{name}')).hexdigest()}  {name}\n" for name in files)
     write(f"{root}/DEBIAN/md5sums", "".join(sums).encode())
-    short = ".".join(version.split(".")[:2])
-    shared = (f"lib{it} {short} vamuretu (>= {version})\n" for it in ("sm_embed", "sm_node"))
+    least = version.partition("+")[0]
+    shared = (f"lib{it} {short(version)} vamuretu (>= {least})\n" for it in ("sm_embed", "sm_node"))
     write(f"{root}/DEBIAN/shlibs", "".join(shared).encode())
     write(f"{root}/DEBIAN/triggers", b"activate-noawait ldconfig\n")
 

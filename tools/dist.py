@@ -3,7 +3,10 @@
 
 The archive has what git has of the documents, the examples and the reference, and what was proved and built: out/sm_tool,
 out/libsm_embed.a, out/libsm_node.a, and where they are there those for processors with AVX2, as out/sm_tool-v3, and the page
-out/audit.html. tools/proved.py says whether they were proved from the sources that are checked out. The compiler makes the heap and the shared libraries, which nothing proves.
+out/audit.html. tools/proved.py says whether they were proved from the sources that are checked out. The compiler makes the heap
+and the shared libraries, which nothing proves. The archive is called by the version if the commit is tagged by it, with a v in
+front, and otherwise by the version and the commit. A commit with this tag whose list of changes begins with "Unreleased" is
+refused.
 Dates are that of the commit, or SOURCE_DATE_EPOCH; owners, modes and the order are fixed.
 """
 import calendar
@@ -22,8 +25,8 @@ import time
 import completions
 import debian
 import proved
-from man import TOP, version
 from man3 import FUNCTION, HEADERS, SHARED
+from version import TOP, UNRELEASED, is_unreleased, short, version
 
 OUT = os.path.join(TOP, "out")
 # What was built, with the crate that it is of and its place in the archive.
@@ -78,6 +81,14 @@ def commit():
     return named, int(os.environ.get("SOURCE_DATE_EPOCH") or seconds)
 
 
+def name_of(named):
+    """What an archive of a commit is called by: the version if the commit is tagged as its release, or else both."""
+    is_tagged = f"v{version()}" in run("git", "-C", TOP, "tag", "--points-at", named).split()
+    if is_tagged and is_unreleased():
+        raise Refused(f"the commit is tagged v{version()}, and CHANGELOG.md begins with {UNRELEASED}: give the version its heading")
+    return version() if is_tagged else f"{version()}+{named[:12]}"
+
+
 def look_over():
     """Refuses what is missing, or was not proved from the sources of the checkout. Returns what is there."""
     there = [*BUILT, *(it for it in [*LEVEL_3, PAGE] if os.path.exists(os.path.join(OUT, it[0])))]
@@ -111,7 +122,6 @@ def put_pages(tree):
 
 def put_libraries(tree):
     """The heap, and the shared libraries, each with its own heap and with the functions of its header alone to be seen."""
-    short = ".".join(version().split(".")[:2])
     with tempfile.TemporaryDirectory() as scratch:
         shutil.copy(os.path.join(TOP, "embed", "heap.c"), scratch)
         run("cc", *COMPILED, "-c", "heap.c", "-o", "heap.o", cwd=scratch)
@@ -125,7 +135,7 @@ def put_libraries(tree):
             shared, seen = f"lib{name}.so.{version()}", "; ".join(FUNCTION.findall(header.decode()))
             write(f"{scratch}/seen", f"{{ global: {seen}; local: *; }};\n".encode())
             shutil.copy(f"{tree}/lib/lib{name}.a", f"{scratch}/whole.a")
-            soname = f"lib{name}.so.{short}"
+            soname = f"lib{name}.so.{short(version())}"
             whole = ["-Wl,--whole-archive", "whole.a", "-Wl,--no-whole-archive", "-Wl,--version-script=seen"]
             run("cc", *LINKED, f"-Wl,-soname,{soname}", "heap.o", *whole, "-o", "shared", cwd=scratch)
             write(f"{tree}/lib/{shared}", read(f"{scratch}/shared"))
@@ -136,7 +146,7 @@ def put_libraries(tree):
 def put_packages(tree):
     """What CMake and pkg-config read, which name no folder but their own."""
     puts = {"CMAKE_INSTALL_PREFIX": "${pcfiledir}/../..", "CMAKE_INSTALL_LIBDIR": "lib", "CMAKE_INSTALL_INCLUDEDIR": "include"}
-    puts |= {"PROJECT_VERSION": version(), "SHORT_VERSION": ".".join(version().split(".")[:2])}
+    puts |= {"PROJECT_VERSION": version(), "SHORT_VERSION": short(version())}
     filled = lambda name: re.sub("@([A-Z_]+)@", lambda it: puts[it[1]], read(os.path.join(TOP, "embed", name)).decode())
     for name in HEADERS:
         text = filled(f"{name}.pc.in")
@@ -162,7 +172,7 @@ def proved_text(tree, named, seconds, built):
     kits = {it["kit"] for it in told.values()}
     if len(kits) > 1:
         raise Refused("what was built is of several kits")
-    lines = [f"vamuretu {version()} x86_64-linux", f"commit {named}"]
+    lines = [f"vamuretu {name_of(named)} x86_64-linux", f"commit {named}"]
     lines += [f"date {time.strftime('%Y-%m-%dT%H:%M:%SZ', time.gmtime(seconds))}", f"kit {kits.pop()}"]
     lines += [f"glibc {glibc_of(tree)} or newer", f"unproved, made by {run('cc', '--version').splitlines()[0]}:"]
     lines += ["  lib/libsm_embed_heap.a", *(f"  lib/lib{name}.so.{version()}" for name in HEADERS)]
@@ -175,7 +185,7 @@ def proved_text(tree, named, seconds, built):
 
 
 def make_tree(tree):
-    """Puts all that the archive has to a folder. Returns the date in seconds."""
+    """Puts all that the archive has to a folder. Returns by what the archive is called, and the date in seconds."""
     named, seconds = commit()
     built = look_over()
     for name in kept_files():
@@ -195,7 +205,7 @@ def make_tree(tree):
     for name in names_of(tree):
         if not os.path.islink(f"{tree}/{name}"):
             os.chmod(f"{tree}/{name}", 0o755 if runs(name, read(f"{tree}/{name}")) else 0o644)
-    return seconds
+    return name_of(named), seconds
 
 
 def runs(name, data):
@@ -211,13 +221,13 @@ def names_of(tree):
     return sorted(found, key=os.fsencode)
 
 
-def pack(tree, named, seconds):
-    """The bytes of the archive of a folder."""
+def pack(tree, folder, seconds):
+    """The bytes of the archive of a folder, which is another one there."""
     packed = io.BytesIO()
     with gzip.GzipFile(filename="", mode="wb", fileobj=packed, mtime=0, compresslevel=9) as zipped:
         with tarfile.open(mode="w", fileobj=zipped, format=tarfile.GNU_FORMAT) as archive:
             for name in names_of(tree):
-                it = archive.gettarinfo(f"{tree}/{name}", f"{named}/{name}")
+                it = archive.gettarinfo(f"{tree}/{name}", f"{folder}/{name}")
                 it.uid = it.gid = 0
                 it.uname = it.gname = "root"
                 it.mtime = seconds
@@ -228,13 +238,13 @@ def pack(tree, named, seconds):
 
 def make_archive(with_package):
     """Makes the archive, and the package where it is wanted."""
-    named = f"vamuretu-{version()}-x86_64-linux"
     with tempfile.TemporaryDirectory() as scratch:
-        tree = f"{scratch}/{named}"
-        seconds = make_tree(tree)
-        made = {f"{named}.tar.gz": pack(tree, named, seconds)}
+        tree = f"{scratch}/tree"
+        called, seconds = make_tree(tree)
+        folder = f"vamuretu-{called}-x86_64-linux"
+        made = {f"{folder}.tar.gz": pack(tree, folder, seconds)}
         if with_package:
-            made |= debian.package(tree, scratch, version(), seconds, run)
+            made |= debian.package(tree, scratch, called, seconds, run)
     for name, data in made.items():
         write(os.path.join(OUT, name), data)
         print(f"{hashlib.sha256(data).hexdigest()}  out/{name}")

@@ -16,6 +16,8 @@ import subprocess
 import sys
 import tempfile
 
+from crates import below, crates_of
+
 TOP = os.path.dirname(os.path.dirname(os.path.abspath(__file__)))
 EDITS = os.path.join(TOP, "edits")
 # Bodies that no contract refuses.
@@ -32,27 +34,6 @@ def stop(why):
 def read(path):
     with open(path, encoding="utf-8") as file:
         return file.read()
-
-
-def uses_of_crates():
-    """For each crate of crates.txt its line, and the names behind the colon."""
-    uses = {}
-    for line in read(os.path.join(TOP, "crates.txt")).splitlines():
-        head, _, names = line.partition("#")[0].partition(":")
-        if head.strip():
-            uses[head.split()[0]] = (line, names.split())
-    return uses
-
-
-def crates_below(names, uses):
-    """These crates and all of the repository that they stand on."""
-    found, left = [], list(names)
-    while left:
-        name = left.pop()
-        if name in uses and name not in found:
-            found.append(name)
-            left += uses[name][1]
-    return found
 
 
 def edits_in(folder):
@@ -86,7 +67,7 @@ def wrong_with(edit, crate):
 def check():
     """Looks whether each edit applies, those of the gate and the open ones too. Returns how many do, and how many don't."""
     well = wrong = 0
-    for crate in uses_of_crates():
+    for crate in crates_of(TOP):
         others = os.path.join(TOP, "crates", crate, "must-fail"), os.path.join(EDITS, OPEN, crate)
         for edit in [*edits_of(crate), *edits_in(others[0]), *edits_in(others[1])]:
             why = wrong_with(edit, crate)
@@ -103,12 +84,13 @@ def count_jobs():
     return max(1, min(len(os.sched_getaffinity(0)), (free >> 20) // GIB_OF_A_CHECK))
 
 
-def make_copy(folder, crates, uses):
+def make_copy(folder, crates):
     """Puts these crates and all below them into a folder, with the edits of these in the place of the gate's."""
-    names = crates_below(crates, uses)
+    every = crates_of(TOP)
+    names = below(crates, every)
     shutil.copy(os.path.join(TOP, "HANDLES"), folder)
     with open(os.path.join(folder, "crates.txt"), "w", encoding="utf-8") as file:
-        file.writelines(f"{line}\n" for name, (line, _) in uses.items() if name in names)
+        file.writelines(f"{every[name].line}\n" for name in names)
     for name in names:
         source, made = os.path.join(TOP, "crates", name), os.path.join(folder, "crates", name)
         for part in (*PARTS, "must-fail"):
@@ -165,7 +147,7 @@ def main():
     with tempfile.TemporaryDirectory() as scratch:
         folder = kept or scratch
         os.makedirs(folder, exist_ok=True)
-        make_copy(folder, crates, uses_of_crates())
+        make_copy(folder, crates)
         refused, others = try_all(folder, crates)
     print(f"{refused} refused, {others} not refused")
     return 1 if others else 0

@@ -5,26 +5,16 @@
     tools/man.py --check    only says whether it is the one that the document makes; else the status is 1
 
 The document is Markdown of a few forms: headings, paragraphs, tables, and lines that are indented by four spaces. The
-version stands in the first heading of CHANGELOG.md that has one.
+version is that of tools/version.py.
 """
 import os
 import re
 import sys
 
-TOP = os.path.dirname(os.path.dirname(os.path.abspath(__file__)))
+from version import TOP, read, version
+
 DOCUMENT = os.path.join(TOP, "docs", "COMMANDS.md")
-CHANGES = os.path.join(TOP, "CHANGELOG.md")
 PAGE = os.path.join(TOP, "man", "sm_tool.1")
-
-
-def read(path):
-    with open(path, encoding="utf-8") as file:
-        return file.read()
-
-
-def version():
-    """The version that the change log begins with."""
-    return re.search(r"^## (\d+\.\d+\.\d+)", read(CHANGES), re.MULTILINE).group(1)
 
 
 def plain(text):

@@ -14,7 +14,8 @@ import os
 import re
 import sys
 
-from man import TOP, plain, read, safe, version
+from man import plain, safe
+from version import TOP, read, version
 
 # The headers of the libraries, and those that are C alone: the one that both include, and the reader of answers.
 HEADERS = ["sm_embed", "sm_node"]

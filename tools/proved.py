@@ -10,10 +10,16 @@ crates.txt, and the file HANDLES. The scripts `prove` and `test` keep, and `dist
 """
 import hashlib
 import os
+import re
 import subprocess
 import sys
 
+from crates import below, crates_of
+
 FOLDERS = ("src", "specs", "proofs")
+# The file into which tools/built.py writes the texts of these constants in a copy of the sources. The texts are no sources.
+BUILT = os.path.join("crates", "sm_tool", "src", "built.rt")
+CONSTANT = re.compile(r'^(pub const (\w+): &str = )".*";$', re.MULTILINE)
 
 
 def read(path):
@@ -25,27 +31,6 @@ def digest(data):
     return hashlib.sha256(data).hexdigest()
 
 
-def rows(tree):
-    """The libraries of each crate by crates.txt."""
-    found = {}
-    for line in read(os.path.join(tree, "crates.txt")).decode().splitlines():
-        head, colon, libraries = line.partition("#")[0].partition(":")
-        if colon and head.split():
-            found[head.split()[0]] = libraries.split()
-    return found
-
-
-def below(tree, crate):
-    """A crate and the crates of the repository that it stands on, sorted, each with all its libraries."""
-    uses, left, seen = rows(tree), [crate], set()
-    while left:
-        name = left.pop()
-        if name in uses and name not in seen:
-            seen.add(name)
-            left += uses[name]
-    return {name: uses[name] for name in sorted(seen)}
-
-
 def files_of(tree, crate):
     """The source files of one crate by their paths in the tree."""
     for folder in FOLDERS:
@@ -54,14 +39,21 @@ def files_of(tree, crate):
             yield from (os.path.relpath(os.path.join(at, name), tree) for name in names)
 
 
+def source(tree, path):
+    """The bytes of a source."""
+    data = read(os.path.join(tree, path))
+    return CONSTANT.sub(r"\1", data.decode()).encode() if path == BUILT else data
+
+
 def sources(tree, crate):
     """The digest of the sources of a crate, or None where it is not there."""
-    crates = below(tree, crate)
-    paths = sorted(path for name in crates for path in files_of(tree, name))
+    crates = crates_of(tree)
+    names = sorted(below([crate], crates))
+    paths = sorted(path for name in names for path in files_of(tree, name))
     if not paths:
         return None
-    lines = [f"{name}: {' '.join(libraries)}" for name, libraries in crates.items()]
-    lines += [f"{digest(read(os.path.join(tree, path)))}  {path}" for path in [*paths, "HANDLES"]]
+    lines = [f"{name}: {' '.join(crates[name].libraries)}" for name in names]
+    lines += [f"{digest(source(tree, path))}  {path}" for path in [*paths, "HANDLES"]]
     return digest("\n".join(lines).encode())
 
 

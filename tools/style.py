@@ -34,6 +34,7 @@ KEPT = [
     "docs/FORMATS.md",
     "docs/GLOSSARY.md",
     "docs/LIBRARY.md",
+    "docs/LLVM.md",
     "docs/PAGE.md",
     "docs/PROMISES.md",
     "docs/PROTOCOL.md",

@@ -7,6 +7,7 @@
 
 A row has a name, the form of a line, and a sentence. Where the document has no form, the form is the name.
 """
+import json
 import os
 import re
 import sys
@@ -14,6 +15,7 @@ import sys
 TOP = os.path.dirname(os.path.dirname(os.path.abspath(__file__)))
 DOCUMENT = os.path.join(TOP, "docs", "WORDS.md")
 FORMATS = os.path.join(TOP, "docs", "FORMATS.md")
+SCHEMA = os.path.join(TOP, "docs", "verdict.schema.json")
 TABLE = os.path.join(TOP, "crates", "gen_show", "src", "table.rt")
 
 
@@ -46,9 +48,21 @@ def names_of_formats():
     return re.findall(r"^(?:\| `?|- )([A-Z]\d+)(?: |`|:)", read(FORMATS), re.MULTILINE)
 
 
+def words_of_schema(schema):
+    """The names of the fields that the objects of a schema have, and the texts that a field can be."""
+    parts = schema.values() if isinstance(schema, dict) else schema if isinstance(schema, list) else []
+    said = [word for part in parts for word in words_of_schema(part)]
+    if isinstance(schema, dict):
+        texts = [schema.get("const"), *schema.get("enum", [])]
+        said += [*schema.get("properties", {}), *(text for text in texts if isinstance(text, str))]
+    return said
+
+
 def faults_of(found):
     """What is wrong with the rows, by the rules of the document."""
     names = [name for name, _form, _sentence in found]
+    for name in sorted(set(words_of_schema(json.loads(read(SCHEMA)))) - set(names)):
+        yield f"{name} of docs/verdict.schema.json has no row"
     for name in names_of_formats():
         if name not in names:
             yield f"{name} of docs/FORMATS.md has no row"

@@ -14,7 +14,7 @@ import tempfile
 from embed import ARCHIVE as JOBS, EMBED, TOP, WARNINGS, IsNotBuilt, do, first_wrong, source, words_of
 from layout import Bundle
 from nodes import ARCHIVE as NODES
-from programs import End, run, side_by_side
+from programs import End, by_library, run, side_by_side
 from refusals import EXAMPLES
 
 PYTHON, RUST = os.path.join(EMBED, "python"), os.path.join(EMBED, "rust")
@@ -128,7 +128,7 @@ def try_python(program, tally, folder):
     tally.hold("Python, its example", verdict_wrong([sys.executable, "-B", "example.py"], cwd=PYTHON, env=given))
     vamuretu.use_libraries(folder)
     cases = example_cases()
-    wanted = side_by_side(lambda case: run(program, words_of(case[0]), case[1]), cases)
+    wanted = side_by_side(lambda case: by_library(run(program, words_of(case[0]), case[1])), cases)
     tally.count(len(cases))
     tally.hold("Python, examples", first_wrong(lambda *case: end_of(vamuretu, *case), cases, wanted))
     for name, four in (("all", support.ALL), ("ring", support.RING)):

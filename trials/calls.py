@@ -12,7 +12,7 @@ import tempfile
 
 from layout import Bundle
 from programs import End, count_cores, run, shown, side_by_side
-from refusals import AT_ONCE, HERE, build, numbers, refused, told_by
+from refusals import AT_ONCE, HERE, build, numbers, one_slot_twice, refused, told_by
 from scenarios import signed, sixteen
 
 PROGRAM = os.path.join(os.path.dirname(HERE), "crates", "rows", "out", "rows")
@@ -40,13 +40,6 @@ def small_cases(program):
         yield "audit", case, bundle, IN_THREADS
     yield "refute", "stolen key", withheld(program), ALONE
     yield "write_campaign", "one slot twice", one_slot_twice(program), ALONE
-
-
-def one_slot_twice(program):
-    """A campaign of two runs of one slot, across which a general is convicted."""
-    text = signed(slot=1)["pair"]
-    twice = [run(program, ["run"], it).wrote for it in (text, text.replace(b"traitors 0", b"traitors 1"))]
-    return b"SMC2\2" + b"".join(twice)
 
 
 def withheld(program):

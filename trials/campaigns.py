@@ -5,7 +5,7 @@ What they are held against was made by an independent implementation: digests, a
 import hashlib
 import os
 
-from programs import End, differs, fault, run
+from programs import End, differs, fault, first_line, run
 from scenarios import ZEROS, chain, everybody, scenario
 
 EXAMPLES = os.path.join(os.path.dirname(os.path.abspath(__file__)), "..", "examples")
@@ -27,6 +27,11 @@ def pair(slot, traitors=0, scripts=None, seed=ZEROS, generals=2):
 
 def text_of(*texts):
     return b"campaign %d\n" % len(texts) + b"".join(texts)
+
+
+def slot_twice(program):
+    """The bundles of two runs in one slot."""
+    return [run(program, ["run"], text).wrote for text in (pair(0), pair(0, 1, {1: []}))]
 
 
 def bytes_of(*bundles):
@@ -77,12 +82,12 @@ def try_texts(program, tally):
     cases += [(text_of(one, pair(2, generals=3)), "P15 line 12"), (text_of(one, pair(2, seed="11" * 32)), "P15 line 19")]
     cases += [(text_of(one, pair(4)), "P13 line 20"), (text_of(pair(None)), "P2 line 10"), (text_of(unseeded), "P2 line 9")]
     for text, answer in cases:
-        tally.hold(f"campaign, {answer}", differs(run(program, ["campaign"], text), fault(f"fault {answer}")))
+        tally.hold(f"campaign, {answer}", differs(first_line(run(program, ["campaign"], text)), fault(f"fault {answer}")))
     text = text_of(one)
     for end in range(len(text)):
         wanted = fault(f"fault P1 line {text[:end].count(10) + 1}")
         tally.hold(f"campaign, {end} bytes of a text", differs(run(program, ["campaign"], text[:end]), wanted))
-    tally.hold("run, the text of a campaign", differs(run(program, ["run"], text), fault("fault P2 line 1")))
+    tally.hold("run, the text of a campaign", differs(first_line(run(program, ["run"], text)), fault("fault P2 line 1")))
     tally.count(len(cases) + len(text) + 1)
 
 
@@ -97,7 +102,7 @@ def try_bytes(program, tally):
     cases += [(bytes_of(one, other[:6] + b"\x11" + other[7:]), "M3 run 1 B3 H1")]
     for data, answer in cases:
         for words in (["audit"], ["accuse", "--general", "0"]):
-            tally.hold(f"{words[0]}, {answer}", differs(run(program, words, data), fault(f"fault {answer}")))
+            tally.hold(f"{words[0]}, {answer}", differs(first_line(run(program, words, data)), fault(f"fault {answer}")))
             tally.count(1)
 
 

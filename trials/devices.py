@@ -11,7 +11,10 @@ from scenarios import header_text, signed, sixteen
 OPEN_FAILED = End(5, b"", b"open failed\n")
 READ_FAILED = End(5, b"", b"read failed\n")
 WRITE_FAILED = End(5, b"", b"write failed\n")
+# What the system says of a stream that is closed, or open for the other direction, and of a pipe that nobody reads.
+CLOSED, BROKEN = "Bad file descriptor (os error 9)", "Broken pipe (os error 32)"
 LONGEST = 1 << 30
+NO_FOLDER, TOO_LONG = "Not a directory (os error 20)", f"it has more than {LONGEST} bytes"
 # The longest input is kept in memory, in room that grows: where less is there, it is not tried.
 GIB_WANTED = 4
 
@@ -27,6 +30,24 @@ def jobs(program, commands):
     both += [(["campaign"], b"campaign 2\n" + b"".join(signed(slot=slot)["pair"] for slot in (1, 2)))]
     both += [(["root"], bytes(range(32))), (["header"], header_text()), (["bundle", "-"], Bundle(bundle).front[MARK:])]
     return [(words, given) for words, given in [*both, (["evidence"], evidence)] if words[0] in commands]
+
+
+def not_opened(file, reason):
+    """The end where a file can't be opened, for a reason."""
+    return End(5, b"", OPEN_FAILED.said + f"cannot open {file}: {reason}\n".encode())
+
+
+def not_read(reason, file="standard input"):
+    """The end where an input can't be read, for a reason."""
+    return End(5, b"", READ_FAILED.said + f"cannot read {file}: {reason}\n".encode())
+
+
+def not_written(reason):
+    """The end where standard output can't be written, for a reason."""
+    return End(5, b"", WRITE_FAILED.said + f"cannot write standard output: {reason}\n".encode())
+
+
+FULL, FOLDER, LEFT = not_written("no space is left"), not_read("is a folder"), not_written(BROKEN)
 
 
 def by_shell(program, words, streams, **how):
@@ -87,14 +108,14 @@ def try_jobs(program, tally):
     """Each command with each failing stream."""
     for words, given in jobs(program, tally.commands):
         ends = {
-            "a full device": (by_shell(program, words, ">/dev/full", given=given), WRITE_FAILED),
-            "a closed output": (by_shell(program, words, ">&-", given=given), WRITE_FAILED),
-            "an output that can only be read": (by_shell(program, words, "1</dev/null", given=given), WRITE_FAILED),
-            "a pipe that nobody reads": (to_nobody(program, words, given, True), WRITE_FAILED),
-            "a pipe that nobody reads, no signal": (to_nobody(program, words, given, False), WRITE_FAILED),
-            "a folder as input": (from_folder(program, words), READ_FAILED),
-            "a closed input": (by_shell(program, words, "<&-"), READ_FAILED),
-            "an input that can only be written": (by_shell(program, words, "0>/dev/null"), READ_FAILED),
+            "a full device": (by_shell(program, words, ">/dev/full", given=given), FULL),
+            "a closed output": (by_shell(program, words, ">&-", given=given), not_written(CLOSED)),
+            "an output that can only be read": (by_shell(program, words, "1</dev/null", given=given), not_written(CLOSED)),
+            "a pipe that nobody reads": (to_nobody(program, words, given, True), LEFT),
+            "a pipe that nobody reads, no signal": (to_nobody(program, words, given, False), LEFT),
+            "a folder as input": (from_folder(program, words), FOLDER),
+            "a closed input": (by_shell(program, words, "<&-"), not_read(CLOSED)),
+            "an input that can only be written": (by_shell(program, words, "0>/dev/null"), not_read(CLOSED)),
             "input in pieces": (from_pieces(program, words, given), run(program, words, given)),
         }
         for name, (end, wanted) in ends.items():
@@ -114,11 +135,11 @@ def try_order(program, tally):
         ("no input", by_shell(program, ["decide"], "</dev/null"), cut),
         ("a faulty text, a full device", by_shell(program, ["decide"], ">/dev/full", given=b""), cut),
         ("a faulty text, a closed output", by_shell(program, ["run"], ">&-", given=b""), cut),
-        ("a folder, a full device", by_shell(program, ["decide"], "</ >/dev/full"), READ_FAILED),
+        ("a folder, a full device", by_shell(program, ["decide"], "</ >/dev/full"), FOLDER),
         ("a faulty text, nowhere to say so", by_shell(program, ["decide"], "2>&-", given=b""), unsaid),
         ("a faulty text, a full device to say so", by_shell(program, ["decide"], "2>/dev/full", given=b""), unsaid),
         ("nothing to write, a full device", empty, End(1, b"", b"")),
-        ("a reader who leaves", to_one_who_leaves(program, ["run"], sixteen()), WRITE_FAILED),
+        ("a reader who leaves", to_one_who_leaves(program, ["run"], sixteen()), LEFT),
     ]:
         tally.hold(name, differs(end, wanted))
     tally.count(10)
@@ -159,12 +180,12 @@ def try_files(program, tally):
                 "a file behind --": (by_shell(program, [*words, "--", file], "<&-"), whole),
                 "standard input by its word": (run(program, [words[0], "-", *words[1:]], given), whole),
                 "a named pipe": (by_pipe(program, words, given, folder), whole),
-                "no such file": (run(program, [*words, missing], given), OPEN_FAILED),
-                "a file with an empty name": (run(program, [*words, ""], given), OPEN_FAILED),
-                "a file in a file": (run(program, [*words, os.path.join(file, "x")], given), OPEN_FAILED),
-                "a folder": (run(program, [*words, folder], given), READ_FAILED),
-                "a file, a full device": (by_shell(program, [*words, file], ">/dev/full"), WRITE_FAILED),
-                "no such file, a full device": (by_shell(program, [*words, missing], ">/dev/full"), OPEN_FAILED),
+                "no such file": (run(program, [*words, missing], given), not_opened(missing, "no such file")),
+                "a file with an empty name": (run(program, [*words, ""], given), not_opened("", "no such file")),
+                "a file in a file": (run(program, [*words, os.path.join(file, "x")], given), not_opened(f"{file}/x", NO_FOLDER)),
+                "a folder": (run(program, [*words, folder], given), not_read("is a folder", folder)),
+                "a file, a full device": (by_shell(program, [*words, file], ">/dev/full"), FULL),
+                "no such file, a full device": (by_shell(program, [*words, missing], ">/dev/full"), not_opened(missing, "no such file")),
             }
             for name, (end, wanted) in ends.items():
                 tally.hold(f"{' '.join(words)}, {name}", differs(end, wanted))
@@ -228,7 +249,7 @@ def try_run_ids(program, tally):
         end = run(program, ["audit", "--run", wanted.decode()], given)
         tally.hold("audit --run", differs(end, run(program, ["audit"], given)))
     lost = by_shell(program, ["run", "--print-run"], ">/dev/full", given=text)
-    tally.hold("run --print-run, a full device", differs(lost, WRITE_FAILED))
+    tally.hold("run --print-run, a full device", differs(lost, FULL))
     bad = run(program, ["run", "--print-run"], b"")
     tally.hold("run --print-run, a faulty text", differs(bad, fault("fault P1 line 1")))
     tally.count(6)
@@ -248,8 +269,8 @@ def try_longest(program, tally):
         return
     with tempfile.TemporaryFile() as zeros:
         for words, size, wanted in [
-            (["decide"], LONGEST + 1, READ_FAILED),
-            (["audit"], LONGEST + 1, READ_FAILED),
+            (["decide"], LONGEST + 1, not_read(TOO_LONG)),
+            (["audit"], LONGEST + 1, not_read(TOO_LONG)),
             (["decide"], LONGEST, fault("fault P12 line 1")),
         ]:
             zeros.truncate(size)

@@ -25,7 +25,7 @@ import traceback
 from bends import bend_bundle, bend_bytes, bend_campaign, bend_evidence, bend_text
 from bent import plain_texts, seeded_texts
 from campaigns import bytes_of
-from drawn import COMMANDS, HELPS, SEVERAL, WANT_RUNS, campaign_lines, draw_campaign, draw_plan, draw_words
+from drawn import COMMANDS, SEVERAL, VERSIONS, WANT_RUNS, campaign_lines, draw_campaign, draw_plan, draw_words
 from drawn import good_options, run_id
 from drawn import spell_lines, spoil_text
 from drawing import bundles_in
@@ -323,9 +323,9 @@ class Cases:
 # Comparing.
 
 
-def asks_for_help(words):
-    """Whether the words ask for help or for the version, whose text is not fixed."""
-    return words in HELPS or words[1:] in HELPS or words[:1] == ["help"]
+def asks_for_version(words):
+    """Whether the words ask for the version, of which the first line alone is fixed."""
+    return words[:1] in VERSIONS
 
 
 def blame(words, said):
@@ -338,8 +338,9 @@ def difference(words, got, want):
     if got.status == want.status == 2:
         is_well = all(end.wrote == b"" and POINTER.fullmatch(blame(words, end.said)) for end in (got, want))
         return None if is_well else f"{shown(got)}; the reference: {shown(want)}"
-    is_help = asks_for_help(words) and got.status == want.status == 0
-    if got == want or is_help and got.wrote and got.said == want.said == b"":
+    if asks_for_version(words) and got.status == want.status == 0:
+        got, want = (end._replace(wrote=end.wrote.split(b"\n")[0]) for end in (got, want))
+    if got == want:
         return None
     return f"{shown(got)}; the reference: {shown(want)}{where(got.wrote, want.wrote)}"
 

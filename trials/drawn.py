@@ -337,7 +337,8 @@ BAD_WORDS = ["", "x", "decide", "-x", "--capacity", "--workers", "--general", "-
              "--faulty=1 ,2"]
 BAD_NUMBERS = ["", "00", "01", "+1", "-1", "17", "99", "256", "1x", " 1", "1 ", "1.0", "\uff14", "\u0661",
                "0x1", "9" * 30]
-HELPS = [["--help"], ["-h"], ["--version"], ["-V"], ["help"]]
+VERSIONS = [["--version"], ["-V"]]
+HELPS = [["--help"], ["-h"], ["help"], *VERSIONS]
 
 
 def option(draws, name, number):

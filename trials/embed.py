@@ -17,12 +17,13 @@ import textwrap
 
 from bends import bend_bundle, bend_evidence, bend_text
 from bent import Bases
-from campaigns import bytes_of, pair, text_of
+from campaigns import bytes_of, pair, slot_twice, text_of
 from devices import READ_FAILED, WRITE_FAILED, by_shell
 from draws import Draws
+from exported import Native, evidence_by_kind, near_wrong
 from layout import Bundle
-from pinned import FILES, answer_of, lists_of, pinned_cases, read, runs_of, told_cases
-from programs import End, differs, run, side_by_side, spell
+from pinned import FILES, answer_of, lists_of, nearly, pinned_cases, read, runs_of, told_cases
+from programs import End, by_library, differs, run, side_by_side, spell
 from refusals import EXAMPLES, OF_MEMORY, build as build_refusing, count_up, refused
 from scenarios import signed, sixteen
 
@@ -104,11 +105,6 @@ def example_cases(program):
     return [(job, given) for given in inputs for job in jobs]
 
 
-def slot_twice(program):
-    """The bundles of two runs in one slot."""
-    return [run(program, ["run"], text).wrote for text in (pair(0), pair(0, 1, {1: []}))]
-
-
 def long_faults(program):
     """A campaign and a text whose faults have long lines: a slot that there is not, and a script line behind line 1,000."""
     one, other = slot_twice(program)
@@ -170,9 +166,22 @@ def try_large(program, tally, library, example):
     campaign = run(program, ["campaign"], text_of(*map(sixteen, range(4)))).wrote
     tally.hold("a large campaign", None if len(campaign) == LARGE else f"{len(campaign)} bytes")
     for job in (["draw"], ["audit"], ["accuse", "0"]):
-        wanted = run(program, words_of(job), campaign)
+        wanted = by_library(run(program, words_of(job), campaign))
         tally.hold(f"large, {job[0]}, Python", differs(end_of(library, job, campaign), wanted))
         tally.hold(f"large, {job[0]}, C", differs(run(example, job, campaign), wanted))
+
+
+def try_large_kept(program, tally, example):
+    """The calls that keep their answers, of the same campaign, of a bundle of 16 generals, and of their scenario's text."""
+    campaign, bundle = run(program, ["campaign"], text_of(*map(sixteen, range(4)))).wrote, run(program, ["run"], sixteen()).wrote
+    jobs = [["audit", "--strict"], ["audit", "--json"], ["draw"], ["accuse", "--general", "0"], ["show"], ["show", "--json"]]
+    cases = [([*job, "--run", ",".join(runs_of(program, given))], given) for given in (campaign, bundle) for job in jobs]
+    cases += [(["show"], campaign), (["show"], bundle), (["decide"], sixteen()), (["decide", "--json"], sixteen())]
+    wanted = side_by_side(lambda case: by_library(run(program, *case)), cases)
+    tally.count(len(cases))
+    statuses = {end.status for end in wanted}
+    tally.hold("large answers", None if statuses <= {0, 1} else f"{statuses}")
+    tally.hold("large, kept", first_wrong(lambda words, given: run(example, words, given), cases, wanted))
 
 
 def room_wrong(library, job, given, *general):
@@ -227,8 +236,9 @@ def shown_cases(program):
     """Files that are shown as text and as JSON, of which runs are expected or none; and files that are not whole."""
     for name in FILES:
         given = read(name)
-        own = ["--run", ",".join(runs_of(program, given))]
-        for asked in ([], *(["--run", ",".join(ids)] for ids in lists_of(runs_of(program, given)))):
+        runs = runs_of(program, given)
+        own = ["--run", ",".join(runs)]
+        for asked in ([], *(["--run", ",".join(ids)] for ids in [*lists_of(runs), *nearly(runs)])):
             yield from ((["show", *asked, *form], given) for form in ([], ["--json"]))
         for bent in (given[:-1], given + b"\0", b""):
             yield from ((["show", *asked, "--json"], bent) for asked in ([], own))
@@ -258,7 +268,7 @@ def kept_cases(program):
 def try_kept(program, tally, answers):
     """The example whose answers the library keeps, against the program, with little stack and under sanitizers too."""
     cases = list(kept_cases(program))
-    wanted = side_by_side(lambda case: answer_of(program, *case), cases)
+    wanted = side_by_side(lambda case: by_library(answer_of(program, *case)), cases)
     tally.count(len(cases))
     asked = lambda words: words[:1] if words[0] == "explain" else words
     calls = {it: lambda words, given, it=it: run(it, asked(words), given) for it in answers}
@@ -273,7 +283,7 @@ def try_kept(program, tally, answers):
 def try_typed(program, tally, typed, cases):
     """The texts of verdicts and decisions, made anew of what is read of them, with the statuses of the program."""
     texts = [case for case in cases if case[0][0] in ("audit", "decide")]
-    wanted = side_by_side(lambda case: run(program, case[0], case[1]), texts)
+    wanted = side_by_side(lambda case: by_library(run(program, case[0], case[1])), texts)
     tally.count(len(texts))
     for number, made in enumerate(typed):
         tally.hold(f"typed, {number}", first_wrong(lambda job, given, it=made: run(it, job, given), texts, wanted))
@@ -314,6 +324,13 @@ def try_known(tally, program, shared):
         kept = kept_by(calls, calls.sm_refute_kept, *given_as(proof), *given_as(log))
         wanted = written(calls.sm_refute, *given_as(proof), *given_as(log))
         tally.hold(f"kept answer by a log of {len(log)} bytes", None if kept == wanted else f"{kept}, not {wanted}")
+
+
+def try_near(tally, program, native):
+    """Run ids that are other in few bytes, by all calls that take any, of files and of evidence of each kind."""
+    files = {name: read(name) for name in FILES} | evidence_by_kind(program, native, Bases(program))
+    for name, given in files.items():
+        tally.hold(f"near runs of {name}", near_wrong(native, given))
 
 
 def try_refused_calls(program, tally, folder):
@@ -471,7 +488,7 @@ def try_built(program, tally, folder):
     cases, library = example_cases(program), python_library(shared)
     bent = bent_cases(program)
     for kind, some in (("examples", cases), ("bent files", bent)):
-        wanted = side_by_side(lambda case: run(program, words_of(case[0]), case[1]), some)
+        wanted = side_by_side(lambda case: by_library(run(program, words_of(case[0]), case[1])), some)
         tally.count(len(some))
         calls = {name: lambda job, given, it=example: run(it, job, given) for name, example in examples.items()}
         calls["C, 1 MiB of stack"] = lambda job, given: with_little_stack(examples["C"], job, given)
@@ -480,7 +497,7 @@ def try_built(program, tally, folder):
             tally.hold(f"{name}, {kind}", first_wrong(answered, some, wanted))
     process = ["-B", source("example.py"), shared]
     few = [case for case in cases if len(case[1]) < 200_000][:40]
-    ends = side_by_side(lambda case: run(program, words_of(case[0]), case[1]), few)
+    ends = side_by_side(lambda case: by_library(run(program, words_of(case[0]), case[1])), few)
     tally.hold("example.py", first_wrong(lambda job, given: run("python3", [*process, *job], given), few, ends))
     processes = {name: [example] for name, example in examples.items()}
     processes["example.py"] = ["python3", *process]
@@ -489,11 +506,13 @@ def try_built(program, tally, folder):
     try_streams(tally, processes, split)
     try_generals(tally, processes, split)
     try_large(program, tally, library, examples["C"])
+    try_large_kept(program, tally, answers[0])
     try_rooms(library, tally, cases)
     try_answers(tally, program, shared)
     try_kept(program, tally, answers)
     try_typed(program, tally, typed, [*cases, *bent])
     try_known(tally, program, shared)
+    try_near(tally, program, Native(shared))
     try_forms(tally, shared)
     try_document(tally, folder)
     try_refused_calls(program, tally, folder)

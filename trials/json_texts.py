@@ -12,7 +12,7 @@ import sys
 
 from programs import End, differs, run, side_by_side, spell
 from vectors import stored
-import reference  # noqa: F401
+import reference
 from model import json_text, show_json
 from model.faults import Fault
 from vector_cases.parts import TOP, bytes_of
@@ -95,15 +95,15 @@ def wanted(vector):
     """What a command with --json answers to a vector, by the reference."""
     try:
         status, line = COMMANDS[vector["words"][0]](bytes_of(vector))
-    except Fault as fault:
-        return End(3, b"", f"fault {fault.words}\n".encode())
+    except Fault:
+        return reference.answer(vector["words"] + ["--json"], bytes_of(vector))
     return End(status, line, b"")
 
 
 def wrong_line(schema, line):
     """None where a line is one object, as a reader of JSON writes it again, and the schema takes it."""
     value = json.loads(line)
-    again = json.dumps(value, sort_keys=True, separators=(",", ":")) + "\n"
+    again = json.dumps(value, sort_keys=True, separators=(",", ":"), ensure_ascii=False) + "\n"
     if again.encode() != line:
         return f"a reader of JSON writes it otherwise: {again}"
     return schema(value)

@@ -144,7 +144,8 @@ def header_of_two(program, library):
     roots = b"".join(root_of(library, seed, 1) for seed in SEEDS)
     same("the roots", roots.hex(), "".join(run(program, ["root"], seed).wrote.decode().strip() for seed in SEEDS))
     words = bytes([1, 0, 2, 0, 1, 2, 0]), bytes([0, 1]), ctypes.c_size_t(1), roots, ctypes.c_size_t(2)
-    header = text_of(library, "sm_node_header", *words, ends=[ctypes.byref(ctypes.c_uint32())])
+    told, pair = ctypes.c_uint32(), (ctypes.c_uint32 * 2)()
+    header = text_of(library, "sm_node_header", *words, ends=[ctypes.byref(told), ctypes.byref(pair)])
     lines = ["generals 2", "edge 0 1", "traitors 0", "diameter 1", "orders 2", "choice 0"]
     lines += [f"root {roots[at : at + 32].hex()}" for at in (0, 32)]
     same("the header", header, run(program, ["header"], "".join(f"{it}\n" for it in [*lines, "end"]).encode()).wrote)

@@ -90,7 +90,7 @@ def words_wrong(made, folder):
     many = ",".join([edge] * 121)
     makes = [(header, text, [root] * 2) for text in ("", "0", "0-", "0-1,", "0-1;", "0-256", "-1-0", many)]
     makes += [(header[:2] + [bad] + header[3:], edge, [root] * 2) for bad in ("x", "", "-1", "+2", "2 ", "258", "1")]
-    makes += [(header, edge, [root, bad]) for bad in ("", root[1:], root + "0", "g" + root[1:])]
+    makes += [(header, edge, [root, bad]) for bad in (root, "", root[1:], root + "0", "g" + root[1:])]
     wrong = [(1, [*made["header"], "make", of_words, *of, edges, *roots]) for of, edges, roots in makes]
     wrong += [(1, [*made["header"], "root", *words]) for words in ((of_seeds, "0", "1"), (of_words, "0", "3"))]
     generals = [(of_seeds, "0", "9", "1"), (of_words, "1", "9"), (of_words, "16", "9"), (of_words, "0", "9")]
@@ -197,7 +197,7 @@ class Run:
     def __init__(self, library, refuses):
         self.library, self.refuses, self.wrong = library, refuses, []
         self.nodes = [ctypes.c_void_p(None), ctypes.c_void_p(None)]
-        self.fault = ctypes.c_uint32(77)
+        self.fault, self.pair = ctypes.c_uint32(77), (ctypes.c_uint32 * 2)(77, 77)
         self.header = self.make_header(1, 0)
 
     def make_header(self, version, slot):
@@ -213,7 +213,8 @@ class Run:
         """The bytes of a header, or none."""
         ends = b"".join(map(bytes, edges))
         sizes = ctypes.c_size_t(len(edges)), ctypes.c_size_t(len(roots) // 32)
-        return self.text(status, "sm_node_header", bytes(of), ends, sizes[0], roots, sizes[1], tail=True)
+        more = [ctypes.byref(self.pair)]
+        return self.text(status, "sm_node_header", bytes(of), ends, sizes[0], roots, sizes[1], tail=True, more=more)
 
     def do(self, name, *words):
         """The status of a call; where memory is refused it is made again until it is not."""
@@ -227,9 +228,9 @@ class Run:
         if told != status:
             self.wrong.append(f"{name} answers {told}, not {status}")
 
-    def text(self, status, name, *words, tail=False):
-        """The bytes of a call, which has to answer so; where it has a tail, a fault is told too."""
-        count, ends = ctypes.c_size_t(77), [ctypes.byref(self.fault)] if tail else []
+    def text(self, status, name, *words, tail=False, more=()):
+        """The bytes of a call, which has to answer so; where it has a tail, a fault is told too, and more behind it."""
+        count, ends = ctypes.c_size_t(77), [ctypes.byref(self.fault), *more] if tail else []
         self.want(SHORT if status == DONE else status, name, *words, b"", ctypes.c_size_t(0), ctypes.byref(count), *ends)
         if status != DONE:
             return b""
@@ -417,7 +418,7 @@ def bad_ends(two):
 def bad_walks(two):
     """Bundles of three in a line, where d is 1: the ends have no walk without the middle, and with him one of 2 edges.
     A bundle that may be parted has no walks then, and else those of any bundle."""
-    two.header = two.header_of(DONE, (1, 0, 3, 0, 1, 2, 0), chain(3), bytes(96))
+    two.header = two.header_of(DONE, (1, 0, 3, 0, 1, 2, 0), chain(3), bytes(range(96)))
     for faulty, fault in ((2, 31), (0, 32)):
         two.bundle(BAD, [], faulty)
         two.told(fault)
@@ -432,7 +433,7 @@ def bad_walks(two):
 
 def plans(two):
     """What is told of headers, and of bytes that are none."""
-    two.header = two.header_of(DONE, (2, 3, 4, 2, 3, 5, 1), [(0, 1), (1, 2), (3, 1)], bytes(128))
+    two.header = two.header_of(DONE, (2, 3, 4, 2, 3, 5, 1), [(0, 1), (1, 2), (3, 1)], bytes(range(128)))
     for general, near in ((0, 2), (1, 13), (2, 2), (3, 2), (4, 0), (15, 0)):
         wanted = bytes([2, 3, 4, 2, 3, 5, 1]), 5, near, 41 + 5 * (6 + 16_577 * 5)
         if two.plan(general=general) != wanted:
@@ -513,6 +514,11 @@ def header_wrong(library):
     for edges in ([(0, 2)], [(0, 0)], [(0, 1), (1, 0)]):
         two.header_of(BAD, (1, 0, 2, 0, 1, 2, 0), edges, bytes(64))
         two.told(2)
+    for roots, pair in ((bytes(96), [0, 1]), (bytes(range(32)) + bytes(64), [1, 2]), (bytes(32) + bytes(range(32)) + bytes(32), [0, 2])):
+        two.header_of(BAD, (1, 0, 3, 0, 1, 2, 0), [(0, 1)], roots)
+        two.told(15)
+        if list(two.pair) != pair:
+            two.wrong.append(f"the pair {list(two.pair)}, not {pair}")
     return "; ".join(two.wrong) or None
 
 

@@ -81,9 +81,10 @@ static int answers(void) {
     WANT(sm_show_as(NULL, 0, 2, NULL, 0, &answer) == SM_MISUSE && answer.at == NULL);
     WANT(sm_show_as(NULL, 1, SM_TEXT, NULL, 0, &answer) == SM_MISUSE && answer.at == NULL);
     WANT(sm_show_as(NULL, 0, SM_TEXT, NULL, 1, &answer) == SM_MISUSE && answer.at == NULL);
-    WANT(sm_explain(NULL, 0, &answer) == SM_NO && answer.at != NULL);
-    WANT(sm_answer_text(&answer, NULL, 0, &count) == SM_OK && count == 0);
+    WANT(sm_explain(NULL, 0, &answer) == SM_OK && answer.at != NULL);
+    WANT(sm_answer_text(&answer, NULL, 0, &count) == SM_LENGTH && count > 0);
     WANT(sm_words(NULL, 0, &answer) == SM_OK && answer.at != NULL);
+    WANT(sm_plan(NULL, 0, &answer) == SM_FAULT && answer.at != NULL);
     sm_answer_free(&answer);
     WANT(sm_answer_text(&answer, room, sizeof room, &count) == SM_MISUSE && count == 0 && answer.at == NULL);
     return 0;
@@ -95,13 +96,14 @@ static int nodes(void) {
     const sm_numbers numbers = {1, 0, 2, 0, 1, 2, 0};
     sm_numbers told = numbers;
     sm_node node = {0};
+    sm_pair pair = {77, 77};
     uint32_t fault = 77, number = 77;
     size_t count = 77;
-    WANT(sm_node_header(&numbers, NULL, 0, NULL, 0, NULL, 0, &count, &fault) == SM_FAULT && fault == SM_H8);
-    WANT(count == 0);
-    WANT(sm_node_header(&numbers, NULL, 1, NULL, 0, NULL, 0, &count, &fault) == SM_MISUSE && fault == 0);
-    WANT(sm_node_header(&numbers, NULL, 0, NULL, 1, NULL, 0, &count, &fault) == SM_MISUSE && fault == 0);
-    WANT(sm_node_header(&numbers, NULL, 0, NULL, 0, NULL, 1, &count, &fault) == SM_MISUSE && fault == 0);
+    WANT(sm_node_header(&numbers, NULL, 0, NULL, 0, NULL, 0, &count, &fault, &pair) == SM_FAULT && fault == SM_H8);
+    WANT(count == 0 && pair.first == 0 && pair.second == 0);
+    WANT(sm_node_header(&numbers, NULL, 1, NULL, 0, NULL, 0, &count, &fault, &pair) == SM_MISUSE && fault == 0);
+    WANT(sm_node_header(&numbers, NULL, 0, NULL, 1, NULL, 0, &count, &fault, &pair) == SM_MISUSE && fault == 0);
+    WANT(sm_node_header(&numbers, NULL, 0, NULL, 0, NULL, 1, &count, &fault, &pair) == SM_MISUSE && fault == 0);
     WANT(sm_node_new(&node, NULL, 0, 0, seed, 1, &fault) == SM_FAULT && fault == SM_H9);
     WANT(sm_node_new(&node, NULL, 1, 0, seed, 1, &fault) == SM_MISUSE && fault == 0);
     WANT(sm_node_send(&node, 1, NULL, 0, &count) == SM_MISUSE && count == 0);
@@ -128,6 +130,18 @@ static int nodes(void) {
     return 0;
 }
 
+/* The text of a verdict that was asked for strictly may end with equal roots. */
+static int equal_roots(void) {
+    static const char text[] = "run 0000000000000000000000000000000000000000000000000000000000000000\nverdict agreed 1\nend\n"
+                               "equal roots 0 3\nequal roots 2 15\n";
+    static sm_judgement judgement;
+    const uint8_t *at = (const uint8_t *)text;
+    WANT(sm_read_judgement(at, sizeof text - 1, &judgement) == SM_OK && judgement.equal_count == 2);
+    WANT(judgement.equal[0].second == 3 && judgement.equal[1].first == 2 && judgement.equal[1].second == 15);
+    WANT(sm_read_judgement(at, sizeof text - 2, &judgement) == SM_FAULT);
+    return 0;
+}
+
 /* No text is none of a verdict, and no decision, and the old names stand for the new ones. */
 static int names(void) {
     const uint8_t seed[SM_SEED_BYTES] = {0};
@@ -151,4 +165,4 @@ static int texts(void) {
     return 0;
 }
 
-int main(void) { return jobs() || answers() || nodes() || names() || texts(); }
+int main(void) { return jobs() || answers() || nodes() || equal_roots() || names() || texts(); }

@@ -19,9 +19,11 @@ from bent import Bases
 from browser import BROWSERS, found
 from differs import BUNDLES, Block
 from draws import Draws
+from exported import try_calls
 from layout import Bundle, front_length
+from masks import try_guard
 from pinned import NO_RUN, answer_of, names, pinned_cases, told_cases
-from programs import run, side_by_side, spell
+from programs import by_library, run, side_by_side, spell
 from refusals import EXAMPLES
 from several import answer_parts
 from worked import stored
@@ -39,7 +41,7 @@ HUNDREDS = {"audit": 3, "evidence": 3, "accuse": 1, "draw": 2, "show": 2}
 ANSWERS = 2
 AGAINST_LOG = re.compile(rb"^N[467] .*\n", re.M)
 # The jobs whose calls take the runs that are expected.
-PINNED = ["audit", "draw", "accuse"]
+PINNED = ["audit", "draw", "accuse", "evidence"]
 # What the module says of a file of another run, and the program.
 OTHER_RUN, FAULT = 7, 3
 # So many bent files are given to the browser, beside those that are named.
@@ -93,23 +95,23 @@ def written(folder, files):
 
 
 def spoken(end):
-    """What a run of the program says: its status, and its output, or else its line without the line feed."""
-    return end.status, end.said[:-1] if end.status == 3 else end.wrote
+    """What a run of the program says: its status, and its output, or else the line of its fault without the line feed."""
+    return end.status, by_library(end).said[:-1] if end.status == 3 else end.wrote
 
 
 # The page by itself.
 
 
 def make(folder, tally):
-    """The path of the page, or None where it isn't made."""
-    page = os.path.join(folder, "page.html")
-    words = [sys.executable, "-B", MAKER, page]
+    """The paths of the page and of the module of all calls, or None where the page isn't made."""
+    page, module = os.path.join(folder, "page.html"), os.path.join(folder, "all.wasm")
+    words = [sys.executable, "-B", MAKER, page, module]
     made = subprocess.run(words, capture_output=True, text=True, check=False)
     if made.stderr.startswith(OF_ANOTHER_KIT):
         tally.note(f"left out: the page, since {made.stderr.removeprefix(OF_ANOTHER_KIT[:14]).strip()}")
         return None
     tally.hold("make_page.py", None if made.returncode == 0 else made.stderr.strip() or f"status {made.returncode}")
-    return page if made.returncode == 0 else None
+    return (page, module) if made.returncode == 0 else None
 
 
 def try_text(page, tally):
@@ -156,15 +158,12 @@ def node_words():
 
 
 def call_of(words):
-    """The call of the module for the program's words, or the page's own for evidence: its name, the runs that are expected,
-    and its numbers.
-    """
+    """The call of the module for the program's words: its name, the runs that are expected, and its numbers."""
     if words[0] == "answer":
         return ["sm_refute", "-", *words[1:]]
     runs = words[words.index("--run") + 1] if "--run" in words else "-"
     numbers = {"audit": [str(int("--strict" in words))], "accuse": words[2:3]}.get(words[0], [])
-    called = "evidenceOf" if words[0] == "evidence" else f"sm_{words[0]}" + ("_of" if words[0] in PINNED else "")
-    return [called, runs, *numbers]
+    return [f"sm_{words[0]}" + ("_of" if words[0] in PINNED else ""), runs, *numbers]
 
 
 def bent_case(draws, bases, job):
@@ -245,12 +244,10 @@ def try_cases(program, node, page, tally, name, cases):
     tally.hold(name, first_other(cases, asked(node, page, cases), wanted))
 
 
-def try_node(program, page, bases, tally):
-    """Eleven hundred bent files, evidence with logs that may answer it, files of which runs are expected, and words."""
-    node = node_words()
-    if not node:
-        tally.note("no Node with 64-bit memories is there, so the module was not asked about bent files")
-        return
+def try_script(program, node, page, bases, tally):
+    """Eleven hundred bent files, evidence with logs that may answer it, files of which runs are expected, and words, over the page's
+    own script.
+    """
     for name, cases in hundreds(bases):
         try_cases(program, node, page, tally, f"{name}, bent", cases)
     for number in range(ANSWERS):
@@ -258,6 +255,20 @@ def try_node(program, page, bases, tally):
     try_cases(program, node, page, tally, "runs that are expected", list(pinned_cases(program)))
     tally.hold("names", None if len(names()) > 40 else f"only {len(names())}")
     try_cases(program, node, page, tally, "what is told", list(told_cases()))
+
+
+def try_node(program, page, module, bases, tally, folder):
+    """What Node is asked: over the page's own script, and all calls of the library. What the maker has to refuse."""
+    node = node_words()
+    if not node:
+        tally.note("no Node with 64-bit memories is there, so the module was not asked about bent files")
+        return
+    try_guard(node, tally)
+    try_script(program, node, page, bases, tally)
+    if shutil.which("cc"):
+        try_calls(program, [*node, os.path.join(HERE, "page_calls.mjs"), page, module], bases, tally, folder)
+    else:
+        tally.note("no C compiler is there, so the calls of the module were not compared with those of the native library")
 
 
 # The browsers.
@@ -627,10 +638,11 @@ def trials(program, tally):
         tally.note(f"left out: {' and '.join(lacks)} is not there")
         return
     with tempfile.TemporaryDirectory() as folder:
-        page = make(folder, tally)
+        made = make(folder, tally)
         try_refused(folder, tally)
-        if page:
+        if made:
+            page, module = made
             bases = Bases(program)
             try_text(page, tally)
-            try_node(program, page, bases, tally)
+            try_node(program, page, module, bases, tally, folder)
             try_browsers(program, page, bases, tally)

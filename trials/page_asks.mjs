@@ -4,19 +4,14 @@
 //
 // A case is a line with the name of a call, the run ids that are expected (or `-`), the numbers that the call takes first,
 // and the length of its input, and then the input. An answer is a line with what came and the length of the bytes behind it,
-// and these bytes. The call is one of the module, or of the script. These are `evidenceOf`, and `sm_refute` with what is
-// found against the log: its number is the length of the evidence, behind which the log stands in the input.
+// and these bytes. The call is one of the module. `sm_refute` is answered with what is found against the log: its number is
+// the length of the evidence, behind which the log stands in the input.
 import fs from "node:fs";
+import { pageOf } from "./page_module.mjs";
 
-const page = fs.readFileSync(process.argv[2], "utf8");
-const within = tag => page.split(tag)[1].split("</script>")[0];
-// The script finds neither a page nor a worker here, so that it begins neither.
-const parts = ["NO", "ask", "evidenceOf", "foundAgainst", "freshModule", "handed", "joined", "put"].join(", ");
-const script = new Function(`${within("<script>")}\nreturn { ${parts} };`)();
-const { NO, ask, evidenceOf, foundAgainst, freshModule, handed, joined, put } = script;
-
-const module = Buffer.from(within('<script id="module" type="text/plain">'), "base64");
-const cases = fs.readFileSync(0), of = await freshModule(module);
+const names = ["NO", "ask", "foundAgainst", "handed", "joined", "put"];
+const { of, NO, ask, foundAgainst, handed, joined, put } = await pageOf(process.argv[2], names);
+const cases = fs.readFileSync(0);
 
 // What evidence and a log behind it come to, with what is found against the log.
 function refuted(given, length) {
@@ -29,8 +24,7 @@ function refuted(given, length) {
 // What a call comes to.
 function answerOf(call, given, runs, numbers) {
   if (call === "sm_refute") return refuted(given, ...numbers);
-  const input = put(of, given);
-  const answer = call === "evidenceOf" ? evidenceOf(of, input, runs) : ask(of, call, input, { runs, numbers });
+  const input = put(of, given), answer = ask(of, call, input, { runs, numbers });
   of.give_back(input.at);
   return answer;
 }

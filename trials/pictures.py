@@ -5,6 +5,7 @@ import os
 import xml.etree.ElementTree
 
 from campaigns import bytes_of, example, pair, text_of
+from devices import FULL
 from drawing import bundles_in, picture, several
 from layout import Bundle, Log
 from programs import End, differs, fault, run
@@ -117,7 +118,7 @@ def try_faults(program, tally):
         tally.hold(f"words {words!r}", None if is_well else f"{end}")
     with open("/dev/full", "wb") as full:
         end = run(program, ["draw"], split, stdout=full)
-        tally.hold("draw, a full device", differs(end, End(5, b"", b"write failed\n")))
+        tally.hold("draw, a full device", differs(end, FULL))
     tally.count(2 * len(cases) + 6)
 
 

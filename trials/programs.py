@@ -77,6 +77,16 @@ def differs(end, wanted):
     return None if end == wanted else f"{shown(end)}; wanted: {shown(wanted)}"
 
 
+def first_line(end):
+    """An end with the first line alone of what standard error has."""
+    return end._replace(said=b"".join(end.said.splitlines(keepends=True)[:1]))
+
+
 def fault(line):
     """The end of a run whose input has a fault."""
     return End(3, b"", line.encode() + b"\n")
+
+
+def by_library(end):
+    """An end as the libraries for C tell it, and the examples over them: of a fault the first line alone."""
+    return first_line(end)._replace(wrote=b"") if end.status == 3 else end

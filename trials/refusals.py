@@ -5,6 +5,7 @@ generals, and where memory is refused from the Nth call on, N grows by an eighth
 calls than in the run before, since threads take turns, is no matter: whatever is refused, it has to end in one of these
 two ways.
 """
+import json
 import os
 import shutil
 import subprocess
@@ -100,6 +101,7 @@ def small_cases(program, folder):
     yield from scenario_cases(program, "pair in a slot", signed(slot=1)["pair"])
     yield from campaign_cases(program)
     yield from prepared_cases(program, folder)
+    yield from asked_cases(program)
     yield "faulty text", ["decide"], b"generals 2\nedge 0\n"
     yield "no bundle", ["audit"], b"SMB1\x01"
     yield "help", ["--help"], b""
@@ -124,13 +126,17 @@ def scenario_cases(program, name, text):
         yield name, ["evidence"], evidence
 
 
+def one_slot_twice(program):
+    """A campaign of two runs of one slot, across which a general is convicted."""
+    text = signed(slot=1)["pair"]
+    twice = [run(program, ["run"], it).wrote for it in (text, text.replace(b"traitors 0", b"traitors 1"))]
+    return b"SMC2\2" + b"".join(twice)
+
+
 def campaign_cases(program):
     """A campaign of two runs, and what is made of it; and evidence across two runs of one slot."""
-    texts = signed(slot=1)["pair"], signed(slot=2)["pair"]
-    text = b"campaign 2\n" + b"".join(texts)
-    yield "two pairs", ["campaign"], text
-    twice = [run(program, ["run"], it).wrote for it in (texts[0], texts[0].replace(b"traitors 0", b"traitors 1"))]
-    bundles = b"SMC2\2" + b"".join(twice)
+    yield "two pairs", ["campaign"], b"campaign 2\n" + signed(slot=1)["pair"] + signed(slot=2)["pair"]
+    bundles = one_slot_twice(program)
     yield "one slot twice", ["audit", "--workers", "3"], bundles
     yield "one slot twice", ["draw"], bundles
     yield "one slot twice", ["accuse", "--general", "0"], bundles
@@ -140,6 +146,35 @@ def campaign_cases(program):
         yield "one slot twice", ["show"], evidence
     yield "one slot twice", ["show"], bundles
     yield "one slot twice", ["words"], run(program, ["audit"], bundles).wrote
+
+
+def asked_cases(program):
+    """What is asked beside a command: another list, runs, a strict answer, and JSON; of one run and of two."""
+    text = signed()["pair"]
+    bundle = run(program, ["run"], text).wrote
+    own = ["--run", run(program, ["audit"], bundle).wrote.split()[1].decode()]
+    yield "another list", ["audit", "--faulty", "0"], bundle
+    yield "another list", ["audit", "--faulty", "0", *own, "--json"], bundle
+    yield "another list", ["draw", "--faulty", "0,1", *own], bundle
+    yield "a run", ["accuse", "--general", "0", *own], bundle
+    yield "pair", ["decide", "--json"], text
+    yield "pair", ["judge", "--strict", "--json"], text
+    bundles = one_slot_twice(program)
+    yield "another list", ["audit", "--faulty", "1", "--strict"], bundles
+    yield "one slot twice", ["audit", "--json"], bundles
+    yield "one slot twice", ["show", "--json"], bundles
+    evidence = run(program, ["accuse", "--general", "0"], bundles).wrote
+    yield "one slot twice", ["evidence", *own], evidence
+    yield "one slot twice", ["evidence", "--json"], evidence
+
+
+def written_in(folder, files):
+    """The paths of files with these names and bytes, which are written in a folder."""
+    paths = {name: os.path.join(folder, name) for name in files}
+    for name, data in files.items():
+        with open(paths[name], "wb") as kept:
+            kept.write(data)
+    return paths
 
 
 def prepared_cases(program, folder):
@@ -152,24 +187,41 @@ def prepared_cases(program, folder):
     split = Bundle(data)
     files = {"header": split.front[MARK:], "log": split.exhibits[1][1]}
     files["evidence"] = run(program, ["accuse", "--general", "0"], data).wrote
-    paths = {name: os.path.join(folder, name) for name in files}
-    for name, data in files.items():
-        with open(paths[name], "wb") as kept:
-            kept.write(data)
+    paths = written_in(folder, files)
     first = split.exhibits[0][1]
     yield "parts", ["bundle", "--faulty", "0", paths["header"], f"1={paths['log']}", "0=-"], first
     yield "evidence and a log", ["answer", paths["evidence"], "-"], first
     yield "evidence and no log", ["answer", paths["evidence"], paths["header"]], b""
 
 
-def large_cases(program):
-    """Each command with 16 generals."""
+def large_cases(program, folder):
+    """The commands that grow with a run, of 16 generals."""
     text = sixteen()
     bundle = run(program, ["run"], text).wrote
     for words in (["decide"], ["run"], ["run", "--capacity", "16"], ["judge"], ["judge", "--workers", "16"]):
         yield "16 generals", words, text
     for words in (["audit"], ["audit", "--workers", "16"], ["draw"], ["accuse", "--general", "0"]):
         yield "16 generals", words, bundle
+    for words in (["audit", "--faulty", "15", "--json"], ["show", "--json"]):
+        yield "16 generals", words, bundle
+    parts = Bundle(bundle)
+    logs = written_in(folder, {f"{general}.log": log for general, log in parts.exhibits})
+    header = written_in(folder, {"large.header": parts.front[MARK:]})["large.header"]
+    words = ["bundle", header, *(f"{name.removesuffix('.log')}={path}" for name, path in logs.items())]
+    yield "16 generals", words, b""
+
+
+def without_object(words, end):
+    """The end of a run without the object in which `--json` tells the fault of status 4, where it tells that of the line."""
+    if end.status != 4 or "--json" not in words:
+        return end
+    try:
+        told = json.loads(end.wrote)
+    except ValueError:
+        return end
+    line = end.said.decode().rstrip("\n")
+    is_same = isinstance(told, dict) and (told.get("fault"), told.get("status")) == (line, 4)
+    return end._replace(wrote=b"") if is_same else end
 
 
 def lawful_ends(words, whole, kind):
@@ -185,14 +237,17 @@ def trials(program, tally):
         return
     with tempfile.TemporaryDirectory() as scratch:
         cases = [(case, False) for case in small_cases(program, scratch)]
-        cases += [(case, True) for case in large_cases(program)]
+        cases += [(case, True) for case in large_cases(program, scratch)]
         library = build(scratch)
         for (name, words, given), is_sampled in cases:
             if words[0] not in tally.commands and words[0][0] != "-":
                 continue
             whole = run(program, words, given)
             for kind, after in (("memory", False), ("memory", True), ("thread", False), ("thread", True)):
-                call = lambda number, k=kind, a=after: refused(program, library, words, given, k, number, a)
+                def call(number, k=kind, a=after):
+                    end, was_refused = refused(program, library, words, given, k, number, a)
+                    return without_object(words, end), was_refused
+
                 runs, wrong = count_up(call, lawful_ends(words, whole, kind), kind, is_sampled or kind == "memory" and after)
                 tally.count(runs + 1)
                 tally.hold(f"{spell(words)}, {name}, {kind}{' from then on' if after else ''}", wrong)

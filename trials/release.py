@@ -21,6 +21,7 @@ sys.path.insert(0, os.path.join(TOP, "tools"))
 import completions  # noqa: E402
 import proved  # noqa: E402
 from man3 import pages  # noqa: E402
+from version import UNRELEASED, short, version  # noqa: E402
 
 CRATES = {"sm_tool": "sm_tool", "sm_tool-v3": "sm_tool", "libsm_embed.a": "sm_embed", "libsm_node.a": "sm_node"}
 CRATES |= {"libsm_embed-v3.a": "sm_embed", "libsm_node-v3.a": "sm_node"}
@@ -30,9 +31,10 @@ GIT = {"GIT_AUTHOR_NAME": "a", "GIT_AUTHOR_EMAIL": "a@a", "GIT_COMMITTER_NAME": 
 GIT |= {"GIT_AUTHOR_DATE": f"{SECONDS} +0000", "GIT_COMMITTER_DATE": f"{SECONDS} +0000"}
 GIT |= {"GIT_CONFIG_GLOBAL": "/dev/null", "GIT_CONFIG_NOSYSTEM": "1"}
 ENV = {**{name: value for name, value in os.environ.items() if not name.startswith("GIT_")}, **GIT}
+# A project for CMake, in which the version is put for {version}.
 CMAKE = """cmake_minimum_required(VERSION 3.16)
 project(uses LANGUAGES C CXX)
-find_package(vamuretu 0.2 REQUIRED)
+find_package(vamuretu {version} REQUIRED)
 foreach(kind "" _shared)
   add_executable(judge${kind} judge.c)
   target_link_libraries(judge${kind} PRIVATE vamuretu::sm_embed${kind})
@@ -166,6 +168,35 @@ def try_refused(top, tally):
     tally.hold("other sources than were proved", refused(top, b"out/libsm_embed.a was proved from other sources"))
 
 
+def with_changes(top, heading):
+    """Commits a list of changes that begins with this heading, and tags the commit by the version. Returns the commit."""
+    changes = read(top, "CHANGELOG.md").decode()
+    before, behind = changes.split("\n## ", 1)[0], changes[changes.index(f"\n## {version()}\n") :]
+    top_of_all = "" if heading == version() else f"\n## {heading}\n"
+    write(os.path.join(top, "CHANGELOG.md"), f"{before}{top_of_all}{behind}".encode())
+    do(["git", "-C", top, "commit", "-q", "--allow-empty", "-a", "-m", heading])
+    do(["git", "-C", top, "tag", "-f", f"v{version()}"])
+    return do(["git", "-C", top, "rev-parse", "HEAD"]).decode().strip()
+
+
+def try_names(top, tally):
+    """By what an archive is called: that of a release by the version alone, and all others by the commit too."""
+    def made():
+        do(["./dist"], cwd=top)
+        return next(it for it in digests(os.path.join(top, "out")) if it.endswith(".gz"))
+
+    commit = do(["git", "-C", top, "rev-parse", "HEAD"]).decode()[:12]
+    for name in digests(os.path.join(top, "out")):
+        os.remove(os.path.join(top, "out", name))
+    name = made()
+    tally.hold("a commit without a tag", None if name == f"vamuretu-{version()}+{commit}-x86_64-linux.tar.gz" else name)
+    with_changes(top, UNRELEASED)
+    tally.hold("changes without a version", refused(top, UNRELEASED.encode()))
+    with_changes(top, version())
+    name = made()
+    tally.hold("a release", None if name == f"vamuretu-{version()}-x86_64-linux.tar.gz" else name)
+
+
 def unpacked(place, top):
     """The folder of the archive, unpacked."""
     name = next(it for it in digests(os.path.join(top, "out")) if it.endswith(".gz"))
@@ -222,7 +253,7 @@ def try_uses(prefix, place, tally):
     else:
         tally.note("left out: pkg-config is not there")
     if shutil.which("cmake"):
-        write(os.path.join(folder, "CMakeLists.txt"), CMAKE.encode())
+        write(os.path.join(folder, "CMakeLists.txt"), CMAKE.replace("{version}", short(version())).encode())
         do(["cmake", "-S", folder, "-B", f"{folder}/build", f"-DCMAKE_PREFIX_PATH={prefix}"])
         do(["cmake", "--build", f"{folder}/build"])
         programs |= {f"{it}, CMake": f"{folder}/build/{it}" for it in ("judge", "judge_shared", "node", "node_shared")}
@@ -257,12 +288,12 @@ def by_pkg_config(folder, told):
     return {f"pkg-config{kind.replace('_', ', ')}": os.path.join(folder, f"by pkg-config{kind}") for kind in ("", "_shared")}
 
 
-def project_of(folder, name, version, kind):
+def project_of(folder, name, asked, kind):
     """A project of its own for CMake."""
     made = os.path.join(folder, name)
     os.mkdir(made)
     shutil.copy(os.path.join(folder, "both.c"), made)
-    write(os.path.join(made, "CMakeLists.txt"), OF_BOTH.format(version=version, kind=kind).encode())
+    write(os.path.join(made, "CMakeLists.txt"), OF_BOTH.format(version=asked, kind=kind).encode())
     return made
 
 
@@ -270,7 +301,7 @@ def by_cmake(prefix, folder, told):
     """The same by find_package."""
     built = {}
     for kind in ("", "_shared"):
-        made = project_of(folder, f"cmake{kind}", "0.2", kind)
+        made = project_of(folder, f"cmake{kind}", short(version()), kind)
         do(["cmake", "-S", made, "-B", f"{made}/build", f"-DCMAKE_PREFIX_PATH={prefix}"], env=told)
         do(["cmake", "--build", f"{made}/build"], env=told)
         built[f"CMake{kind.replace('_', ', ')}"] = f"{made}/build/both"
@@ -279,11 +310,11 @@ def by_cmake(prefix, folder, told):
 
 def versions_wrong(prefix, folder, told):
     """None where find_package finds no other version than it is asked for."""
-    found = []
-    for version in ("0.1", "0.2.9", "0.3", "1.0"):
-        made = project_of(folder, f"of {version}", version, "")
+    found, (first, second, third) = [], map(int, version().split("."))
+    for other in (f"{first}.{second - 1}", f"{first}.{second}.{third + 9}", f"{first}.{second + 1}", f"{first + 1}.0"):
+        made = project_of(folder, f"of {other}", other, "")
         end = run("cmake", ["-S", made, "-B", f"{made}/build", f"-DCMAKE_PREFIX_PATH={prefix}"], env=told)
-        found += [] if end.status and b"vamuretu" in end.said else [version]
+        found += [] if end.status and b"vamuretu" in end.said else [other]
     return f"it finds {found}" if found else None
 
 
@@ -372,6 +403,7 @@ def trials(program, tally):
         try_damaged(tree, place, tally)
         try_installed(tree, place, tally)
         try_checkout(second, place, tally)
+        try_names(second, tally)
         try_refused(first, tally)
         if not shutil.which("dpkg-deb"):
             tally.note("left out: the package for Debian, since dpkg-deb is not there")

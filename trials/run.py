@@ -4,8 +4,8 @@
     trials/run.py PROGRAM [SUBJECT ..]
 
 The subjects are the modules that README.md lists; `libraries` stands for those that want the libraries for C, and `program` for
-all others. The last line is `N passed, M failed`; the status is 1 where something
-failed.
+all others. Each subject has a line with its seconds, and of several subjects one more line names the slowest. The last line is
+`N passed, M failed`; the status is 1 where something failed.
 """
 import faulthandler
 import importlib
@@ -20,6 +20,8 @@ SUBJECTS = ["scripts", "worked", "walk", "campaigns", "pictures", "prefixes", "v
 SUBJECTS += ["json_texts", "costs", "refusals", "slips", "calls", "devices", "load", "archive", "embed", "nodes"]
 SUBJECTS += ["node_calls", "datagrams", "shown", "power", "system", "bindings", "page", "release"]
 LIBRARIES = ["embed", "nodes", "node_calls", "datagrams", "shown", "power", "system", "bindings", "page", "release"]
+# So many of the slowest subjects are named.
+SLOWEST = 5
 # What no subject takes, in seconds, however busy the machine is: trials that take longer hang.
 MOST_SECONDS = 1800
 GROUPS = {"libraries": LIBRARIES, "program": [subject for subject in SUBJECTS if subject not in LIBRARIES]}
@@ -41,6 +43,14 @@ def try_subject(subject, program, commands):
     return tally
 
 
+def tell_slowest(tallies):
+    """The line that names the slowest subjects, if there are several."""
+    slowest = sorted(tallies, key=lambda tally: -tally.seconds)[:SLOWEST]
+    told = ", ".join(f"{tally.subject} {tally.seconds:.0f} s" for tally in slowest)
+    if len(tallies) > 1:
+        print(f"the slowest of {sum(tally.seconds for tally in tallies):.0f} s: {told}", flush=True)
+
+
 def main():
     if len(sys.argv) < 2 or not set(sys.argv[2:]) <= {*SUBJECTS, *GROUPS}:
         sys.exit(__doc__)
@@ -48,6 +58,7 @@ def main():
     program = os.path.abspath(sys.argv[1])
     commands = commands_of(program)
     tallies = [try_subject(subject, program, commands) for subject in subjects]
+    tell_slowest(tallies)
     failed = sum(tally.failed for tally in tallies)
     print(f"{sum(tally.passed for tally in tallies)} passed, {failed} failed", flush=True)
     return 1 if failed else 0

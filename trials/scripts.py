@@ -4,16 +4,22 @@ The small repository has the scripts of this one, a library whose function retur
 it for each line of its input. A source is edited while the program is being proved, and the edit is taken back: whatever was built then, the edited
 number is not printed as a proved answer, and the next use proves the library again. Without a proved program the script
 answers by the program compiled without proofs, and says so. The built program itself is not used.
+
+In a copy of the script and the reference alone, without the kit on the path, the reference answers, and two lines say so.
 """
 import os
 import shutil
 import subprocess
+import sys
 import tempfile
 import time
 
 from programs import run
 
 TOP = os.path.dirname(os.path.dirname(os.path.abspath(__file__)))
+sys.path.insert(0, os.path.join(TOP, "tools"))
+import unproved  # noqa: E402
+
 SCRIPTS = ["sm_tool", "prove", "tools"]
 # The library and the program, with the number that is edited.
 NUMBER, EDITED = b"1982\n", b"2891\n"
@@ -32,9 +38,12 @@ pub fn number() -> u16
 PROGRAM = """//! Prints the number for each line of its input.
 #![tactic(auto)]
 
+mod built;
+
 use std::io;
 
 fn main(rt: HostRuntime) -> io::Result<()> {
+    let _ = (built::COMMIT, built::KIT, built::SOURCES);
     for line in rt.lines(rt.alloc()) {
         let _ = line?;
         let number = low::number();
@@ -48,6 +57,16 @@ fn main(rt: HostRuntime) -> io::Result<()> {
 PAUSE, PAUSES, READ = 0.1, 3000, 4
 UNPROVED, PROVED_ALONE = b"not proved on this machine", {"SM_TOOL_PROVED": "1"}
 NOT_PROVED = 126
+# What the script wants where the kit is not there, and what it answers then: the words, and what is put for standard input.
+WANTED = ("sh", "find", "readlink", "grep", "python3")
+WITHOUT_KIT = [("decide", "line.scenario"), ("decide line.scenario", None), ("audit --strict --workers 2 disputed.bundle", None)]
+WITHOUT_KIT += [("audit --json -- split.bundle", None), ("draw split.bundle", None), ("evidence", "split.bundle"), ("audit nothing", None)]
+WITHOUT_KIT += [("answer split.evidence -", "split.bundle"), ("explain N8", None), ("run --help", None), ("help", None), ("nothing", None)]
+# Files of a folder, and for words the copies that a program without proofs is given, with the words that it then gets.
+FILES = ["a", "b/c", "d=e", "program", "-f", "4"]
+GIVEN = [("audit a", {"a": "a"}, "audit a"), ("bundle b/c 3=b/c", {"b/c": "b/c"}, "bundle b/c 3=b/c"), ("audit b -", {}, "audit b -")]
+GIVEN += [("audit d=e", {"file_1": "d=e"}, "audit file_1"), ("answer program a", {"file_1": "program", "a": "a"}, "answer file_1 a")]
+GIVEN += [("audit -f --workers 4 --run=a", {"4": "4"}, "audit -f --workers 4 --run=a"), ("audit -- -f", {"file_2": "-f"}, "audit -- file_2")]
 
 
 def write(path, text):
@@ -71,6 +90,7 @@ def make_repository(top, scripts):
     write(os.path.join(top, "crates.txt"), "low:\nsm_tool: low\n")
     write(os.path.join(top, "HANDLES"), "Handles allowed: none.\n")
     write(os.path.join(top, "crates", "sm_tool", "src", "main.rt"), PROGRAM)
+    shutil.copy(os.path.join(TOP, "crates", "sm_tool", "src", "built.rt"), os.path.join(top, "crates", "sm_tool", "src"))
     edit(top, NUMBER)
 
 
@@ -144,7 +164,59 @@ def try_proved(top, tally):
     tally.hold("an edit behind that", wrong_with(ask(top, **PROVED_ALONE), NOT_PROVED, b"", b"./prove"))
 
 
+def copy_without_kit(place):
+    """A copy of the script with what it stands on without the kit. Returns its folder, and a path that has no kit."""
+    top, path = os.path.join(place, "top"), os.path.join(place, "path")
+    os.mkdir(path)
+    for name in ("reference", "examples", "docs"):
+        shutil.copytree(os.path.join(TOP, name), os.path.join(top, name))
+    shutil.copy(os.path.join(TOP, "sm_tool"), top)
+    for name in WANTED:
+        os.symlink(sys.executable if name == "python3" else shutil.which(name), os.path.join(path, name))
+    return top, path
+
+
+def try_without_kit(tally):
+    """The reference's answers by the script, with two lines on standard error."""
+    with tempfile.TemporaryDirectory() as place:
+        top, path = copy_without_kit(place)
+        examples, script = os.path.join(top, "examples"), os.path.join(top, "sm_tool")
+        for words, name in WITHOUT_KIT:
+            given = open(os.path.join(examples, name), "rb").read() if name else b""
+            end = run(script, words.split(), given, env={"PATH": path}, cwd=examples)
+            want = run(sys.executable, ["-B", os.path.join(TOP, "reference", "sm.py"), *words.split()], given, cwd=examples)
+            said = end.said.split(b"\n", 2)
+            is_told = b"not proved" in said[0] and b"INSTALL.md" in said[1] and said[2] == want.said
+            is_same = is_told and (end.status, end.wrote) == (want.status, want.wrote)
+            tally.hold(f"without the kit: {words}", None if is_same else f"{end}, and the reference {want}")
+        end = run(script, ["help"], env={"PATH": path, **PROVED_ALONE})
+        tally.hold("without the kit, but a proved answer is wanted", wrong_with(end, NOT_PROVED, b"", b"./prove"))
+        os.remove(os.path.join(path, "python3"))
+        end = run(script, ["help"], env={"PATH": path})
+        tally.hold("with neither the kit nor Python", wrong_with(end, NOT_PROVED, b"", b"python3"))
+
+
+def try_files(tally):
+    """The files that a program without proofs is given."""
+    with tempfile.TemporaryDirectory() as place:
+        for name in FILES:
+            os.makedirs(os.path.join(place, os.path.dirname(name)), exist_ok=True)
+            write(os.path.join(place, name), "")
+        before = os.getcwd()
+        os.chdir(place)
+        for words, copies, gets in GIVEN:
+            command = unproved.command_of(words.split())
+            at = command.index("--")
+            told = dict(it.split("=", 1) for it in command[3:at:2])
+            wanted = {copy: os.path.join(os.getcwd(), name) for copy, name in copies.items()}
+            is_same = told == wanted and command[at + 1 :] == gets.split()
+            tally.hold(f"the files of {words}", None if is_same else f"{command}")
+        os.chdir(before)
+
+
 def trials(_, tally, scripts=TOP):
+    try_files(tally)
+    try_without_kit(tally)
     if not shutil.which("rt"):
         tally.note("left out: the Rattle kit's rt is not on the path")
         return

@@ -11,9 +11,11 @@ import shutil
 import subprocess
 import tempfile
 
-from devices import READ_FAILED, WRITE_FAILED
+import reference  # noqa: F401
+from devices import not_read, not_written
 from layout import MARK, Bundle
-from programs import End, differs, run, side_by_side, spell
+from model.json_text import failure_value, kind_of, line_of
+from programs import differs, run, side_by_side, spell
 from scenarios import chain, header_text, scenario
 
 HERE = os.path.dirname(os.path.abspath(__file__))
@@ -21,6 +23,8 @@ HERE = os.path.dirname(os.path.abspath(__file__))
 PIECES = 3
 # No command comes near so many calls.
 MOST = 1000
+# What the system says of a call that fails.
+SAID = "Input/output error (os error 5)"
 # How a call slips that the run has to go on after.
 HARMLESS = ("interrupted", "short")
 # So many bytes a call moves at most, where none slips.
@@ -64,7 +68,7 @@ def cases(program, folder):
     of_bundles = [(words, bundle) for words in of_a_bundle]
     of_evidence = [(words, evidence) for words in [*json("evidence"), *json("show")]]
     prepared = [(["root"], bytes([7]) * 32), (["root", "--tall"], bytes([7]) * 32)]
-    prepared += [(["header", "--slot", "3"], header_text()), (["header", "--print-run"], header_text())]
+    prepared += [(["plan"], header_text()), (["header", "--slot", "3"], header_text()), (["header", "--print-run"], header_text())]
     prepared += [(["bundle", "--faulty", "1", "-", "1=" + paths["log"]], header)]
     prepared += [(["bundle", "--faulty", "1", paths["header"], "1=-"], log), (["answer", paths["evidence"], "-"], log)]
     prepared += [(["answer", "-", paths["log"]], evidence), (["words"], run(program, ["audit"], bundle).wrote)]
@@ -100,11 +104,19 @@ class Slipping:
         if how in HARMLESS:
             return self.whole
         if kind == "write":
-            return End(WRITE_FAILED.status, self.whole.wrote[:moved], WRITE_FAILED.said)
+            return not_written(SAID if how == "fails" else "it takes no more bytes")._replace(wrote=self.whole.wrote[:moved])
         if how == "fails":
-            return READ_FAILED
+            return self.not_read(moved)
         self.runs += 1
         return run(self.program, self.words, self.given[:moved])
+
+    def not_read(self, moved):
+        """How a run has to end of which a read failed behind so many bytes of standard input."""
+        end = not_read(SAID)
+        if "--json" not in self.words:
+            return end
+        value = failure_value("read failed", None, kind_of(self.given[:moved]), end.status)
+        return end._replace(wrote=line_of(value))
 
     def slip_wrong(self, kind, how):
         """None where each call of a kind may slip in a way, one in each run."""
@@ -114,7 +126,7 @@ class Slipping:
                 few = number <= PIECES + (kind == "read")
                 return f"{number - 1} calls alone" if few else differs(end, self.whole)
             wrong = differs(end, self.wanted(kind, how, moved))
-            if wrong is None and end == READ_FAILED and written:
+            if wrong is None and end.status == 5 and kind == "read" and written and not end.wrote:
                 wrong = "standard output was written to"
             if wrong:
                 return f"call {number}, behind {moved} bytes: {wrong}"

@@ -10,7 +10,7 @@ class Tally:
 
     def __init__(self, subject, commands):
         self.subject, self.commands = subject, commands
-        self.passed, self.failed, self.runs, self.since = 0, 0, 0, time.monotonic()
+        self.passed, self.failed, self.runs, self.since, self.seconds = 0, 0, 0, time.monotonic(), 0
 
     def count(self, runs):
         """So many runs of the program were made."""
@@ -33,5 +33,5 @@ class Tally:
 
     def close(self):
         """The subject's line."""
-        seconds = time.monotonic() - self.since
-        self.note(f"{self.passed} passed, {self.failed} failed, in {self.runs} runs of the program, {seconds:.0f} s")
+        self.seconds = time.monotonic() - self.since
+        self.note(f"{self.passed} passed, {self.failed} failed, in {self.runs} runs of the program, {self.seconds:.0f} s")

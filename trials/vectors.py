@@ -8,7 +8,7 @@ import os
 import re
 import tempfile
 
-from programs import End, differs, run, side_by_side, spell
+from programs import End, differs, first_line, run, side_by_side, spell
 import reference  # noqa: F401
 import make_vectors
 from vector_cases.parts import TOP, bytes_of, files_of
@@ -29,7 +29,8 @@ def stored():
 def wrong_output(end, vector):
     """None where a run ended as a vector says, else what is wrong."""
     if "fault" in vector:
-        return differs(end, End(vector["status"], b"", f"fault {vector['fault']}\n".encode()))
+        wanted = End(vector["status"], end.wrote if "--json" in vector["words"] else b"", f"fault {vector['fault']}\n".encode())
+        return differs(first_line(end), wanted)
     wanted = vector["result"]
     if isinstance(wanted, str):
         return differs(end, End(vector["status"], wanted.encode(), b""))

@@ -4,15 +4,19 @@ Of each scenario in cases/ stand beside it the decisions and the verdict on the 
 digests of that bundle and that verdict, and of those of the scenarios of scenarios.py.
 """
 import hashlib
+import json
 import os
 import re
 
+import reference
 from layout import Bundle, Log
 from programs import End, differs, fault, run, spell
 from scenarios import chain, scenario, signed, sixteen
 
 CASES = os.path.join(os.path.dirname(os.path.abspath(__file__)), "cases")
 SLOT = 2
+# The second line of the version.
+BUILT = re.compile(rb"commit (unknown|[0-9a-f]{40}( with changes)?), kit [\w-]+, sources (unknown|[0-9a-f]{64})")
 
 # One byte of the bundle of a pair is changed: the place, the new value, the answer.
 CHANGED = [
@@ -40,7 +44,7 @@ SCRIPTS = [
 
 # Words that ask for nothing.
 EXAMPLE = "run --capacity 0", b"error: --capacity takes a number from 1 to 16, and not '0'; for more, try '--help'\n"
-WORDS = ["", "walk", "decide x y", "explain", "decide --workers 1", "run --capacity", "run --capacity 0", "run --capacity 17"]
+WORDS = ["", "walk", "decide x y", "explain x y", "decide --workers 1", "run --capacity", "run --capacity 0", "run --capacity 17"]
 WORDS += ["run --capacity 01", "run --capacity x", "run --capacity +1", "audit --workers 0", "audit --workers 17"]
 WORDS += ["judge --capacity 1 --workers 0", "judge --capacity 17 --workers 2", "judge --workers 2 --capacity 0"]
 WORDS += ["audit --workers 1 --workers 1", "accuse", "accuse --general 16", "accuse --general -1", "evidence --general 0"]
@@ -200,6 +204,52 @@ def try_words(program, tally):
     tally.count(1)
 
 
+def try_help(program, tally):
+    """What the program says of itself and of each command, which the reference has as its own."""
+    with open(os.path.join(os.path.dirname(CASES), "..", "reference", "help.json"), encoding="utf-8") as kept:
+        commands = sorted(set(json.load(kept)) & set(tally.commands))
+    for words in (["--help"], ["help"], *(["help", it] for it in commands), *([it, "--help"] for it in commands if it != "help")):
+        tally.hold(f"help: {spell(words)}", differs(run(program, words), reference.answer(words)))
+        tally.count(1)
+    told, built, *rest = run(program, ["--version"]).wrote.split(b"\n")
+    is_well = told == reference.answer(["--version"]).wrote.split(b"\n")[0] and rest == [b""] and BUILT.fullmatch(built)
+    tally.hold("the version", None if is_well else f"{told}, {built}, {rest}")
+    for name, words in (("another name", ["decide", "--help"]), ("no such option", ["decide", "--bogus"])):
+        end = run("sm_tool.old", words, executable=program)
+        tally.hold(f"the file has {name}", differs(end, run(program, words)))
+    tally.count(5)
+
+
+# Inputs of another kind than a command reads, as examples: the words, and the second line of standard error.
+OTHERS = [
+    ("audit split.evidence", "split.evidence begins as evidence does: see sm_tool evidence"),
+    ("audit line.scenario", "line.scenario begins as a scenario text does: see sm_tool decide"),
+    ("decide split.bundle", "split.bundle begins as a bundle does: see sm_tool audit"),
+    ("run series.campaign", "series.campaign begins as a campaign text does: see sm_tool campaign"),
+    ("evidence series.bundles", "series.bundles begins as a campaign does: see sm_tool audit"),
+    ("bundle split.bundle", "split.bundle begins as a bundle does: see sm_tool audit"),
+    ("answer split.evidence split.scenario", "split.scenario begins as a scenario text does: see sm_tool decide"),
+    ("answer split.svg split.bundle", "the fault is in split.svg"),
+    ("bundle split.svg", "the fault is in split.svg"),
+]
+EXAMPLES = os.path.join(os.path.dirname(CASES), "..", "examples")
+
+
+def try_kinds(program, tally):
+    """Inputs of another kind than a command reads, as text and with `--json`, beside the reference."""
+    for words, line in OTHERS:
+        end = run(program, words.split(), cwd=EXAMPLES)
+        told = end.said.decode().splitlines()
+        is_well = end.status == 3 and told[0].startswith("fault ") and told[1:] == [line]
+        tally.hold(words, None if is_well else f"{end}")
+    for words in ("audit", "decide", "evidence", "show"):
+        for given in (b"", b"SMF1", b"\1\0", b"campaign 1\n", b"generals 2\n", stored("pair.scenario")):
+            words_of = [words, "--json", *(["--run", "0" * 64] if words == "show" else [])]
+            end, wanted = run(program, words_of, given), reference.answer(words_of, given)
+            tally.hold(f"{words} --json, {given[:9]!r}", differs(end, wanted))
+    tally.count(len(OTHERS) + 24)
+
+
 def trials(program, tally):
-    for trial in (try_runs, try_stored, try_stolen_key, try_bytes, try_texts, try_words):
+    for trial in (try_runs, try_stored, try_stolen_key, try_bytes, try_texts, try_words, try_help, try_kinds):
         trial(program, tally)

@@ -54,11 +54,13 @@ static void make(const char *folder, char **words, int roots) {
     uint8_t edges[2 * MOST_EDGES], known[32 * SM_GENERALS_MOST], room[SM_HEADER_MOST], given[7];
     size_t count, edge_count = read_edges(words[7], edges);
     uint32_t fault;
+    sm_pair equal;
     for (int general = 0; general < roots; general++) read_root(words[8 + general], known + 32 * general);
     for (int place = 0; place < 7; place++) given[place] = (uint8_t)read_number(words[place], UINT8_MAX);
     sm_numbers numbers = {given[0], given[1], given[2], given[3], given[4], given[5], given[6]};
     uint32_t status =
-        sm_node_header(&numbers, edges, edge_count, known, (size_t)roots, room, sizeof room, &count, &fault);
+        sm_node_header(&numbers, edges, edge_count, known, (size_t)roots, room, sizeof room, &count, &fault, &equal);
+    if (fault == SM_EQUAL_ROOTS) fprintf(stderr, "nodes %u and %u have one root\n", equal.first, equal.second);
     must_fit(status, fault, "sm_node_header");
     replace_file(folder, "header", (struct bytes){room, count});
 }

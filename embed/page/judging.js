@@ -3,8 +3,6 @@
 // What a call returns; UNASKED is the page's own, where it could not ask.
 const YES = 0, NO = 1, MISUSE = 2, FAULT = 3, MEMORY = 4, LENGTH = 5, OTHER = 7, UNASKED = 9;
 const LONGEST = 1073741824;
-// The line for evidence of another run than the one that is expected.
-const OTHER_LINE = "fault R1";
 // The room for an answer that is handed over at once.
 const ROOM = 256;
 // The bytes of a run id, of a root, of a pointer, and of the mark of a file.
@@ -82,16 +80,6 @@ function handed(of, call, inputs, length = ROOM) {
   return end === LENGTH ? handed(of, call, inputs, held) : { end, bytes };
 }
 
-// Whether evidence holds that has to be of this run, or of any run if there is none. The run ids are compared here, since
-// `sm_evidence_of` as it is compiled for WebAssembly refuses the evidence's own run.
-function evidenceOf(of, input, runs) {
-  const answer = handed(of, "sm_evidence", [input]);
-  if (answer.end > NO || !runs.length) return answer;
-  const { end, bytes } = handed(of, "sm_run_id", [input]);
-  if (end !== YES) return { end, bytes: NOTHING };
-  return hexOf(bytes) === hexOf(runs) ? answer : { end: OTHER, bytes: new TextEncoder().encode(OTHER_LINE) };
-}
-
 // What is told of a text by a call that takes a text: no bytes if memory is refused.
 function told(of, call, text) {
   const input = put(of, new TextEncoder().encode(text));
@@ -112,7 +100,7 @@ function evidenceBy(of, input, runs, text) {
   const generals = [...new Set(convicted)].sort((a, b) => a - b);
   return generals.map(general => {
     const { end, bytes } = ask(of, "sm_accuse_of", input, { runs, numbers: [general] }), found = put(of, bytes);
-    return { general, bytes, holds: end === YES && evidenceOf(of, found, NOTHING).end === YES };
+    return { general, bytes, holds: end === YES && ask(of, "sm_evidence_of", found).end === YES };
   });
 }
 
@@ -124,7 +112,7 @@ function pictureOf(of, input, runs) {
 
 // The answer on evidence, or on a file that is neither.
 function weighed(of, kind, input, runs) {
-  const { end, bytes } = evidenceOf(of, input, runs);
+  const { end, bytes } = ask(of, "sm_evidence_of", input, { runs });
   if (kind === "evidence") return { end, text: textOf(bytes) };
   const other = ask(of, "sm_audit_of", input, { numbers: [0] });
   const isShort = end === MEMORY || other.end === MEMORY;

@@ -1,7 +1,9 @@
 #!/usr/bin/env python3
 """Makes the page: one HTML file that judges bundles, campaigns and evidence in a browser, without a network.
 
-    embed/page/make_page.py OUT.html
+    embed/page/make_page.py OUT.html [MODULE.wasm]
+
+MODULE.wasm gets the same compiled code as the page, with all calls of the library as exports: trials/page.py asks for each.
 
 `rt lib` in crates/sm_embed has to be done before. The toolchain makes no WebAssembly of code that takes memory from the C
 library's heap. So the LLVM module that the static library is compiled from is kept on its way to clang, and compiled for
@@ -27,8 +29,8 @@ CRATE = "sm_embed"
 # The kits that this was tried with. With another the page has to be tried anew (trials/page.py) before this is changed.
 KITS = ("rattle-kit-13b", "rattle-kit-13f")
 # What the page calls: of the library, and of its heap.
-EXPORTS = ["sm_audit_of", "sm_accuse_of", "sm_draw_of", "sm_evidence", "sm_run_id", "sm_refute", "sm_show", "sm_explain"]
-EXPORTS += ["sm_words", "sm_answer_text", "sm_answer_free", "room", "give_back"]
+EXPORTS = ["sm_audit_of", "sm_accuse_of", "sm_draw_of", "sm_evidence_of", "sm_refute", "sm_show", "sm_explain", "sm_words"]
+EXPORTS += ["sm_answer_text", "sm_answer_free", "room", "give_back"]
 # The parts of the page's script, in their order.
 SCRIPTS = ["judging.js", "reading.js", "report.js", "page.js"]
 # What LLVM says of the layout of values on the one target and on the other.
@@ -36,6 +38,14 @@ NATIVE = "x86_64-unknown-linux-gnu"
 WASM = "wasm64-unknown-unknown"
 LAYOUT = "e-m:e-p:64:64-p10:8:8-p20:8:8-i64:64-i128:128-n32:64-S128-ni:1:10:20"
 FOR_WASM = ["--no-default-config", f"--target={WASM}", "-mcpu=lime1", "-msimd128", "-mbulk-memory"]
+# LLVM's passes, without the one that joins comparisons of bytes to wide ones.
+PASSES = ["-O3", "-fno-slp-vectorize", "-S", "-emit-llvm"]
+# The choice of instructions alone.
+CHOICE = ["-O3", "-Xclang", "-disable-llvm-passes", "-c"]
+# A mask of more than 16 lanes that becomes one number, at once or where a call is taken apart. Of such a mask LLVM 22 may make
+# wrong code for WebAssembly: docs/LLVM.md.
+WIDE = r"(?:1[7-9]|[2-9]\d|\d{3,})"
+WIDE_MASK = rf"bitcast \(?<{WIDE} x i1>|@llvm\.vector\.reduce\.\w+\.v{WIDE}i1\b|@llvm\.masked\.\w+\.v{WIDE}\w+"
 STACK = 1 << 22
 # The section of a WebAssembly module that has its imports, and the one that has its exports.
 IMPORTS, EXPORTED = 2, 7
@@ -166,21 +176,51 @@ def retargeted(text):
     return re.sub(r' "(probe-stack|stack-probe-size|target-cpu)"="[^"]*"', "", text)
 
 
+def look_for_masks(text):
+    """Refuses a module's text in which a mask of more than 16 lanes becomes a number."""
+    found = re.search(WIDE_MASK, text)
+    if found:
+        raise Refused(f"the module has `{found[0]}`: a mask of more than 16 lanes, of which LLVM may make wrong code")
+
+
+def optimized(clang, text, scratch):
+    """The path of a module's text for wasm64 as LLVM's passes leave it."""
+    write(f"{scratch}/module64.ll", text.encode())
+    run(clang, *FOR_WASM, *PASSES, "-x", "ir", f"{scratch}/module64.ll", "-o", f"{scratch}/optimized.ll")
+    return f"{scratch}/optimized.ll"
+
+
 def compiled(kit, module, scratch):
-    """The WebAssembly module of an LLVM module, with the heap beside it."""
-    clang, at = f"{kit}/toolchain/bin/clang", lambda name: f"{scratch}/{name}"
+    """Compiles an LLVM module for wasm64. Between LLVM's passes and its choice of instructions the text is looked over."""
+    clang = f"{kit}/toolchain/bin/clang"
     as_text = ["-S", "-emit-llvm", "-Xclang", "-disable-llvm-passes", "-x", "ir"]
-    run(clang, "--no-default-config", *as_text, module, "-o", at("module.ll"))
-    text = retargeted(read(at("module.ll")).decode())
-    write(at("module64.ll"), text.encode())
-    run(clang, *FOR_WASM, "-O3", "-c", "-x", "ir", at("module64.ll"), "-o", at("module.o"))
-    run(clang, *FOR_WASM, "-O2", "-ffreestanding", "-c", f"{HERE}/heap_wasm.c", "-o", at("heap.o"))
-    os.symlink(f"{kit}/toolchain/bin/clang", at("wasm-ld"))
-    names = [f"--export={it}" for it in EXPORTS]
+    run(clang, "--no-default-config", *as_text, module, "-o", f"{scratch}/module.ll")
+    best = optimized(clang, retargeted(read(f"{scratch}/module.ll").decode()), scratch)
+    look_for_masks(read(best).decode())
+    choose(clang, best, scratch)
+
+
+def choose(clang, best, scratch):
+    """Has LLVM choose the instructions of such a text, and compiles the heap that it wants."""
+    run(clang, *FOR_WASM, *CHOICE, "-x", "ir", best, "-o", f"{scratch}/module.o")
+    run(clang, *FOR_WASM, "-O2", "-ffreestanding", "-c", f"{HERE}/heap_wasm.c", "-o", f"{scratch}/heap.o")
+    os.symlink(clang, f"{scratch}/wasm-ld")
+
+
+def linked(exports, scratch):
+    """The WebAssembly module of what was compiled, with these exports and what they need."""
+    names, made = [f"--export={it}" for it in exports], f"{scratch}/linked.wasm"
     # The stack lies below the data, so that one that grows too long leaves the memory, which traps.
     kept = ["--stack-first", "-z", f"stack-size={STACK}", "--gc-sections", "--strip-all"]
-    run(at("wasm-ld"), "-mwasm64", "--no-entry", *names, *kept, "-o", at("page.wasm"), at("module.o"), at("heap.o"))
-    return read(at("page.wasm"))
+    objects = [f"{scratch}/module.o", f"{scratch}/heap.o"]
+    run(f"{scratch}/wasm-ld", "-mwasm64", "--no-entry", *names, *kept, "-o", made, *objects)
+    return read(made)
+
+
+def every_export():
+    """What the page calls, and all other calls of the library."""
+    header = read(f"{TOP}/embed/sm_embed.h").decode()
+    return sorted({*EXPORTS, *re.findall(r"^(?:uint32_t|void) (sm_\w+)\(", header, re.MULTILINE)})
 
 
 def number_at(data, at):
@@ -231,22 +271,25 @@ def whole_page(wasm, kit):
     return re.sub(r"@([A-Z]+)@", lambda it: puts[it[1]], part("page.html"))
 
 
-def make(out):
-    """Writes the page."""
+def make(out, whole=None):
+    """Writes the page, and the module of all calls where one is wanted."""
     kit, named = kit_folder()
     with tempfile.TemporaryDirectory() as scratch:
-        wasm = compiled(kit, kept_module(kit, scratch), scratch)
-    look_over(wasm)
+        compiled(kit, kept_module(kit, scratch), scratch)
+        wasm = linked(EXPORTS, scratch)
+        look_over(wasm)
+        if whole:
+            write(whole, linked(every_export(), scratch))
     text = whole_page(wasm, named).encode()
     write(out, text)
     print(f"{out}: {len(text)} bytes, with a module of {len(wasm)} bytes")
 
 
 def main():
-    if len(sys.argv) != 2:
+    if len(sys.argv) not in (2, 3):
         sys.exit(__doc__)
     try:
-        make(sys.argv[1])
+        make(*sys.argv[1:])
     except (Refused, OSError) as why:
         sys.exit(f"make_page.py: {why}")
 

@@ -188,6 +188,10 @@ function generalsTable(run, verdict, label) {
   return tableOf(label, names, rows);
 }
 
+// Each pair of generals of a run that have the same root.
+const equalRootsIn = run => run.equalRoots.map(pair => made("p", "equal",
+  `Equal roots: ${generalsIn(pair)} have the same root, so whoever has its keys is counted as two.`));
+
 // The runs of a file, each with its numbers and its generals.
 function runsIn({ kind, file, verdicts }) {
   const alone = file.runs.length === 1;
@@ -196,7 +200,7 @@ function runsIn({ kind, file, verdicts }) {
     const said = verdicts[place] ? `${name}: ${verdicts[place].verdict}` : name;
     const label = alone ? "The generals" : `The generals of run ${place}`;
     const table = run.faulty ? [generalsTable(run, verdicts[place], label)] : [];
-    return [made("h3", "", said), runFacts(run), ...table];
+    return [made("h3", "", said), ...equalRootsIn(run), runFacts(run), ...table];
   });
 }
 

@@ -20,6 +20,7 @@ function addToRun(run, word, fields, line) {
   if (["generals", "traitors", "diameter", "orders", "choice"].includes(word)) run[word] = Number(fields[0]);
   if (word === "run") run.id = fields[0];
   if (word === "root") run.roots.push(fields[1]);
+  if (word === "equal") run.equalRoots.push(fields.slice(1).map(Number));
   if (word === "faulty") run.faulty = numbersOf(fields[0]);
   if (word === "log") run.logs.push({ general: Number(fields[1]), entries: [], decided: null, length: Number(fields[5]) });
   if (word === "unreadable") run.logs.at(-1).fault = fields.slice(3).join(" ");
@@ -34,7 +35,7 @@ function readShown(shown) {
   for (const line of linesOf(shown)) {
     const [word, ...fields] = line.split(" ");
     if (word === "format" && fields[0] !== "campaign") {
-      file.runs.push({ version: Number(fields[2]), slot: Number(fields[4]), roots: [], faulty: null, logs: [] });
+      file.runs.push({ version: Number(fields[2]), slot: Number(fields[4]), roots: [], equalRoots: [], faulty: null, logs: [] });
     } else if (word === "text") {
       file.texts.push({ name: fields[0], said: fields.slice(1).join(" "), place: file.runs.length - 1 });
     } else if (word === "accused") {

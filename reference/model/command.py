@@ -17,11 +17,13 @@ from .draw import draw_bundle, draw_campaign
 from .evidence import read_evidence
 from .faults import Cursor, Fault
 from .follow import plain_sets
+from .helping import ALL_COMMANDS, VERSION, text_of_program
 from .network import read_header
+from .plan import plan_text, planned_header
 from .prepare import bundle_of_parts, header_of_text, root_text
 from .run import play
 from .scenario import read_campaign_text, read_scenario
-from .show import shown_lines, shown_runs
+from .show import equal_root_lines, shown_lines, shown_runs
 from .words import explain, with_words
 
 LONGEST_INPUT = 1_073_741_824
@@ -29,7 +31,7 @@ ABOUT = b"sm_tool reference: answers from docs/FORMATS.md and docs/PROTOCOL.md; 
 OPTIONS = {
     "decide": (), "run": ("capacity",), "judge": ("capacity", "workers"), "campaign": ("capacity",),
     "audit": ("workers",), "draw": ("workers",), "accuse": ("general",), "evidence": (), "show": (), "explain": (), "words": (),
-    "root": (), "header": ("slot",), "bundle": (), "answer": (),
+    "root": (), "header": ("slot",), "plan": ("slot",), "bundle": (), "answer": (),
 }
 RANGES = {"capacity": (1, 16), "workers": (1, 16), "general": (0, 15), "slot": (0, 3)}
 # Of each command what else it takes: the run ids that are asked for, who is held for faulty, and flags.
@@ -53,7 +55,7 @@ class Refused(Exception):
 
 
 class Asked(Exception):
-    """Words that ask for help or for the version."""
+    """Words that ask for help or for the version: the name of the text."""
 
 
 @dataclass
@@ -72,6 +74,10 @@ class Job:
     def sources(self) -> Tuple[str, ...]:
         """The files that are read, in this order; `-` is standard input (FORMATS.md#the-programs-commands)."""
         return () if self.command == "explain" else self.files or ("-",)
+
+    def name(self) -> Optional[str]:
+        """The name of the file of the one input; standard input has none (FORMATS.md#where-an-answer-comes-from)."""
+        return next((name for name in self.sources()[:1] if name != "-"), None)
 
 
 def _number_in(value: str, least: int, most: int) -> Optional[int]:
@@ -110,13 +116,12 @@ def _is_text(word: str) -> bool:
     return not any("\ud800" <= letter <= "\udfff" for letter in word)
 
 
-def _asks(word: str, letters: str) -> bool:
+def _asks(word: str, letter: str) -> bool:
     """Whether a word asks for help or the version; behind one dash its first letter does.
 
     FORMATS.md#the-programs-commands.
     """
-    long = {"h": "--help", "V": "--version"}
-    return any(word == long[letter] or word.startswith("-" + letter) for letter in letters)
+    return word == {"h": "--help", "V": "--version"}[letter] or word.startswith("-" + letter)
 
 
 @dataclass
@@ -165,7 +170,7 @@ def _read_options(command: str, words: List[str]) -> Given:
                 given.take_file(command, last)
             break
         if _asks(word, "h"):
-            raise Asked
+            raise Asked(command)
         if word.startswith("-") and word != "-":
             given.take_option(command, word, left)
         else:
@@ -199,19 +204,19 @@ def read_words(words: List[str]) -> Job:
         raise Refused("a word is not UTF-8")
     if not words:
         raise Refused("a command is missing")
-    if _asks(words[0], "hV"):
-        raise Asked
+    if _asks(words[0], "h"):
+        raise Asked(ALL_COMMANDS)
+    if _asks(words[0], "V"):
+        raise Asked(VERSION)
     if words[0] == "help":
         if len(words) == 1 or (len(words) == 2 and words[1] in [*OPTIONS, "help"]):
-            raise Asked
+            raise Asked(*words[1:] or [ALL_COMMANDS])
         raise Refused("help takes one command")
     if words[0] not in OPTIONS:
         raise Refused("there is no such command")
     given = _read_options(words[0], words[1:])
     if words[0] == "accuse" and "general" not in given.options:
         raise Refused("--general is missing")
-    if words[0] == "explain" and not given.files:
-        raise Refused("NAME is missing")
     generals = _generals(words[0], given.files)
     _check_files(words[0], given.files)
     told = [option for option in OPTIONS[words[0]] if option in given.options]
@@ -265,8 +270,8 @@ def _judged(given: bytes, job: Job) -> Tuple[bool, List[Judgement]]:
 def _counts_as_no(judgement: Judgement, job: Job) -> bool:
     """Whether a judgement counts as a no (FORMATS.md#the-programs-answers)."""
     bundle = judgement.bundle
-    is_explained = len(bundle.faulty) > bundle.header.network.traitors
-    return bool(judgement.findings) or ("strict" in job.flags and is_explained)
+    is_doubtful = len(bundle.faulty) > bundle.header.network.traitors or bundle.header.equal_roots()
+    return bool(judgement.findings) or ("strict" in job.flags and bool(is_doubtful))
 
 
 def decide(given: bytes, job: Job) -> Tuple[int, bytes]:
@@ -294,19 +299,22 @@ def run(given: bytes, job: Job) -> Tuple[int, bytes]:
     return 0, run_bundle(read_scenario(given, True)).spell()
 
 
-def _verdict(campaign: bool, judgements: Sequence[Judgement], job: Job) -> Tuple[int, bytes]:
+def _verdict(given: bytes, campaign: bool, judgements: Sequence[Judgement], job: Job) -> Tuple[int, bytes]:
     """Whether judgements say no, and their text or their object (FORMATS.md#verdict-text, FORMATS.md#json)."""
     if "json" in job.flags:
         value = json_text.campaign_value(judgements) if campaign else json_text.verdict_value(judgements[0])
-        text = json_text.line_of(value)
+        text = json_text.line_of({**value, **json_text.Origin(given, job.name(), job.faulty, job.runs).fields()})
     else:
         text = (campaign_text(judgements) if campaign else verdict_text(judgements[0])).encode("ascii")
+        if "strict" in job.flags:
+            shared = equal_root_lines(judgements[0].bundle.header)
+            text += "".join(f"{line}\n" for line in shared).encode("ascii")
     return 1 if any(_counts_as_no(judgement, job) for judgement in judgements) else 0, text
 
 
 def judge_scenario(given: bytes, job: Job) -> Tuple[int, bytes]:
     """The command judge (FORMATS.md#verdict-text)."""
-    return _verdict(False, [judge(run_bundle(read_scenario(given, True)))], job)
+    return _verdict(given, False, [judge(run_bundle(read_scenario(given, True)))], job)
 
 
 def campaign(given: bytes, job: Job) -> Tuple[int, bytes]:
@@ -316,7 +324,7 @@ def campaign(given: bytes, job: Job) -> Tuple[int, bytes]:
 
 def audit(given: bytes, job: Job) -> Tuple[int, bytes]:
     """The command audit (FORMATS.md#verdict-text)."""
-    return _verdict(*_judged(given, job), job)
+    return _verdict(given, *_judged(given, job), job)
 
 
 def draw(given: bytes, job: Job) -> Tuple[int, bytes]:
@@ -354,7 +362,7 @@ def show(given: bytes, job: Job) -> Tuple[int, bytes]:
 
 def explain_name(job: Job) -> Tuple[int, bytes]:
     """The command explain (FORMATS.md#words)."""
-    told = explain(os.fsencode(job.files[0]))
+    told = explain(os.fsencode(job.files[0]) if job.files else b"")
     return (1, b"") if told is None else (0, told)
 
 
@@ -371,6 +379,12 @@ def tell_root(given: bytes, job: Job) -> Tuple[int, bytes]:
 def make_header(given: bytes, job: Job) -> Tuple[int, bytes]:
     """The command header (FORMATS.md#header-text)."""
     return 0, header_of_text(given, job.numbers.get("slot")).spell()
+
+
+def tell_plan(given: bytes, job: Job) -> Tuple[int, bytes]:
+    """The command plan (FORMATS.md#plan-text)."""
+    holds, text = plan_text(planned_header(given, job.numbers.get("slot")))
+    return 0 if holds else 1, text
 
 
 def make_bundle(header: bytes, *logs: bytes, job: Job) -> Tuple[int, bytes]:
@@ -398,24 +412,84 @@ def run_ids_text(job: Job, output: bytes) -> bytes:
 COMMANDS: Dict[str, Callable[..., Tuple[int, bytes]]] = {
     "decide": decide, "run": run, "judge": judge_scenario, "campaign": campaign, "audit": audit, "draw": draw,
     "accuse": accuse_general, "evidence": check_evidence, "show": show, "explain": explain_name, "words": word_text,
-    "root": tell_root, "header": make_header, "bundle": make_bundle, "answer": answer_evidence,
+    "root": tell_root, "header": make_header, "plan": tell_plan, "bundle": make_bundle, "answer": answer_evidence,
 }
+
+
+SCENARIOS, JUDGED = ("scenario text",), ("bundle", "campaign")
+# Of each command the kinds of inputs that it reads, and of each kind a command that reads it (FORMATS.md#the-fault).
+READS: Dict[str, Sequence[str]] = {
+    "decide": SCENARIOS, "run": SCENARIOS, "judge": SCENARIOS, "header": SCENARIOS, "campaign": ("campaign text",),
+    "audit": JUDGED, "draw": JUDGED, "accuse": JUDGED, "evidence": ("evidence",), "root": (),
+    "show": ("bundle", "campaign", "evidence", "header"), "plan": ("bundle", "campaign", "header", "scenario text"),
+}
+READERS = {"bundle": "audit", "campaign": "audit", "evidence": "evidence", "header": "show", "scenario text": "decide",
+           "campaign text": "campaign"}
+# Of the commands of several files: which of these the faults that begin so are of, and of which kind it is. A log is of no kind,
+# and may begin as a header does.
+WITHIN = {"bundle": {"B3": (0, "header"), "B8": (0, "header")}, "answer": {"V": (0, "evidence"), "L": (1, "header")}}
+ESCAPES = {"\t": "\\t", "\r": "\\r", "\n": "\\n", "'": "\\'", '"': '\\"', "\\": "\\\\"}
+
+
+def called(name: str) -> str:
+    """What a file is called in a line (FORMATS.md#the-programs-answers)."""
+    if not any(letter < " " or letter == "\x7f" for letter in name):
+        return "standard input" if name == "-" else name
+    code = lambda letter: f"\\u{{{ord(letter):x}}}" if letter < " " or letter == "\x7f" else letter
+    return "".join(ESCAPES.get(letter) or code(letter) for letter in name)
+
+
+def kind_line(name: str, given: bytes, reads: Sequence[str]) -> str:
+    """The line that says of which other kind an input is than those that are read, if it is (FORMATS.md#the-programs-answers)."""
+    kind = json_text.kind_of(given)
+    if kind is None or kind in reads:
+        return ""
+    begins = kind if kind == "evidence" else f"a {kind}"
+    see = f": see sm_tool {READERS[kind]}" if kind in READERS else ", which no command reads"
+    return f"{called(name)} begins as {begins} does{see}\n"
+
+
+def line_behind(job: Job, inputs: Sequence[bytes], words: str) -> str:
+    """The line behind that of a fault, if there is one (FORMATS.md#the-programs-answers)."""
+    if job.command not in FILES:
+        return kind_line(job.sources()[0], inputs[0], READS[job.command])
+    for begins, (place, kind) in WITHIN[job.command].items():
+        if words.startswith(begins):
+            name = job.sources()[place]
+            return kind_line(name, inputs[place], (kind,)) or f"the fault is in {name if name == '-' else called(name)}\n"
+    return ""
+
+
+def failed(job: Job, status: int, line: str, behind: str, front: bytes) -> Answer:
+    """The answer in the place of an output, by the line of the fault, that behind it, and how the input begins.
+
+    FORMATS.md#the-programs-answers, FORMATS.md#the-fault.
+    """
+    value = json_text.failure_value(line, job.name(), json_text.kind_of(front), status)
+    return status, json_text.line_of(value) if "json" in job.flags else b"", f"{line}\n{behind}".encode("utf-8")
+
+
+def not_read(job: Job, name: str, reason: str, front: bytes = b"") -> Answer:
+    """The answer where an input can't be read, for a reason (FORMATS.md#the-programs-answers)."""
+    return failed(job, 5, "read failed", f"cannot read {called(name)}: {reason}\n", front)
 
 
 def answer_job(job: Job, inputs: Sequence[bytes]) -> Answer:
     """The status, the output and the error of a job on its inputs (FORMATS.md#the-programs-answers)."""
-    if any(len(given) > LONGEST_INPUT for given in inputs):
-        return 5, b"", b"read failed\n"
+    for name, given in zip(job.sources(), inputs):
+        if len(given) > LONGEST_INPUT:
+            return not_read(job, name, f"it has more than {LONGEST_INPUT} bytes", given)
     try:
         status, output = COMMANDS[job.command](*inputs, job=job)
     except Fault as fault:
-        return 3, b"", f"fault {fault.words}\n".encode("ascii")
+        return failed(job, 3, f"fault {fault.words}", line_behind(job, inputs, fault.words), inputs[0])
     return status, output, run_ids_text(job, output) if "print-run" in job.flags else b""
 
 
-def refused_text(refused: Refused) -> Answer:
-    """The answer to words that ask for no job (FORMATS.md#the-programs-answers)."""
-    return 2, b"", f"error: {refused}; for more, try '--help'\n".encode("utf-8", "backslashreplace")
+def refused_text(refused: Refused, words: List[str]) -> Answer:
+    """The answer to words that ask for no job; without any words the help stands before it (FORMATS.md#the-programs-answers)."""
+    line = f"error: {refused}; for more, try '--help'\n".encode("utf-8", "backslashreplace")
+    return 2, b"", line if words else text_of_program(ALL_COMMANDS) + line
 
 
 def answer_words(words: List[str], given: bytes) -> Answer:
@@ -425,8 +499,9 @@ def answer_words(words: List[str], given: bytes) -> Answer:
     """
     try:
         job = read_words(words)
-    except Asked:
-        return 0, ABOUT, b""
+    except Asked as asked:
+        name = asked.args[0]
+        return 0, text_of_program(name) + (ABOUT if name == VERSION else b""), b""
     except Refused as refused:
-        return refused_text(refused)
+        return refused_text(refused, words)
     return answer_job(job, [given for _ in job.sources()])

@@ -2,7 +2,9 @@
 
 from __future__ import annotations
 
+import hashlib
 import json
+from dataclasses import dataclass
 from typing import Any, Callable, Dict, List, Optional, Sequence, Set, Tuple
 
 from .audit import Finding, Judgement, judge
@@ -16,12 +18,48 @@ from .scenario import read_scenario
 
 Value = Dict[str, Any]
 VERSION = 1
+TOOL = "0.2.0"
 NAMES = {1: "K1", 2: "K2", 3: "K3", 4: "K4", 5: "K1"}
 
 
 def line_of(value: Value) -> bytes:
     """An object without spaces, its fields in the order of their names, and a line feed (FORMATS.md#json)."""
-    return (json.dumps(value, sort_keys=True, separators=(",", ":")) + "\n").encode("ascii")
+    return (json.dumps(value, sort_keys=True, separators=(",", ":"), ensure_ascii=False) + "\n").encode("utf-8")
+
+
+@dataclass
+class Origin:
+    """Where an answer comes from: the input with its name, and what was asked of it."""
+
+    given: bytes
+    name: Optional[str] = None
+    faulty: Optional[Sequence[int]] = None
+    runs: Optional[Sequence[bytes]] = None
+
+    def fields(self) -> Value:
+        """The fields of an answer that tell where it comes from (FORMATS.md#where-an-answer-comes-from)."""
+        return {
+            "asked": {"faulty": None if self.faulty is None else sorted(self.faulty),
+                      "runs": None if self.runs is None else [run.hex() for run in self.runs]},
+            "input": {"bytes": len(self.given), "name": self.name, "sha256": hashlib.sha256(self.given).hexdigest()},
+            "tool": TOOL,
+        }
+
+
+def failure_value(line: str, name: Optional[str], kind: Optional[str], status: int) -> Value:
+    """The object of a fault in place of an answer (FORMATS.md#the-fault)."""
+    return {"fault": line, "format": "fault", "kind": kind, "name": name, "status": status, "version": VERSION}
+
+
+MARKS = {b"SMB1": "bundle", b"SMB2": "bundle", b"SMC2": "campaign", b"SME1": "evidence", b"SME2": "evidence", b"SMF1": "frame"}
+OPENINGS = {b"generals ": "scenario text", b"campaign ": "campaign text"}
+
+
+def kind_of(given: bytes) -> Optional[str]:
+    """The kind of an input by its first bytes (FORMATS.md#the-fault)."""
+    if given[:4] in MARKS:
+        return MARKS[given[:4]]
+    return "header" if given[:1] in (b"\1", b"\2") else OPENINGS.get(given[:9])
 
 
 def network_value(network: Network) -> Value:
@@ -58,7 +96,7 @@ def status_of(judgement: Judgement, accused: Set[int], general: int) -> str:
 
 
 def verdict_value(judgement: Judgement) -> Value:
-    """The object of a verdict (FORMATS.md#the-verdict)."""
+    """The object of a verdict on a run of a campaign (FORMATS.md#the-verdict)."""
     header = judgement.bundle.header
     claims = convicted(judgement)
     accused = {general for general, _ in claims}
@@ -67,9 +105,12 @@ def verdict_value(judgement: Judgement) -> Value:
     return {
         "convictions": [{"general": general, "id": NAMES[claim.kind]} for general, claim in claims],
         "decisions": [{"general": general, "order": order} for general, order in decided],
+        "equal_roots": [list(pair) for pair in header.equal_roots()],
         "faulty": sorted(judgement.bundle.faulty),
         "findings": [finding_value(finding) for finding in judgement.findings],
         "format": "verdict",
+        "logs": [{"general": report.exhibit.general, "order": report.log.end.order}
+                 for report in judgement.reports if report.log is not None],
         "network": network_value(header.network),
         "order": int(order) if order else None,
         "run": header.run_id.hex(),
@@ -153,17 +194,17 @@ def decide(given: bytes) -> Tuple[int, bytes]:
 def judge_scenario(given: bytes) -> Tuple[int, bytes]:
     """The object of the judgement on a run of a scenario (FORMATS.md#the-verdict)."""
     judgement = judge(run_bundle(read_scenario(given, True)))
-    return 1 if judgement.findings else 0, line_of(verdict_value(judgement))
+    return 1 if judgement.findings else 0, line_of({**verdict_value(judgement), **Origin(given).fields()})
 
 
 def audit(given: bytes) -> Tuple[int, bytes]:
     """The object of the judgement on a bundle or a campaign (FORMATS.md#the-verdict-on-a-campaign)."""
     if not given.startswith(CAMPAIGN_MARK):
         judgement = judge(read_bundle(given))
-        return 1 if judgement.findings else 0, line_of(verdict_value(judgement))
+        return 1 if judgement.findings else 0, line_of({**verdict_value(judgement), **Origin(given).fields()})
     judgements = [judge(bundle) for bundle in read_campaign(given)]
     no = any(judgement.findings for judgement in judgements)
-    return 1 if no else 0, line_of(campaign_value(judgements))
+    return 1 if no else 0, line_of({**campaign_value(judgements), **Origin(given).fields()})
 
 
 def check_evidence(given: bytes) -> Tuple[int, bytes]:

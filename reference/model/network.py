@@ -4,7 +4,8 @@ from __future__ import annotations
 
 from dataclasses import dataclass
 from functools import cached_property
-from typing import Optional, Sequence, Tuple
+from itertools import combinations
+from typing import List, Optional, Sequence, Tuple
 
 from . import keys
 from .faults import Cursor, Fault
@@ -115,6 +116,11 @@ class Header:
     def run_id(self) -> bytes:
         """The hash of a header (FORMATS.md#what-is-hashed)."""
         return keys.digest(b"\x31" + self.spell())
+
+    def equal_roots(self) -> List[Tuple[int, int]]:
+        """The pairs of generals that have the same root, ascending (FORMATS.md#equal-roots)."""
+        return [pair for pair in combinations(range(self.network.generals), 2)
+                if self.roots[pair[0]] == self.roots[pair[1]]]
 
     def statement(self, order: int, path: Path) -> bytes:
         """The text of a statement (FORMATS.md#what-is-hashed)."""

@@ -22,7 +22,7 @@ def root_text(seed: bytes, version: int) -> bytes:
 
 
 def header_of_text(text: bytes, slot: Optional[int]) -> Header:
-    """The header of a text, of version 2 where a slot is given, or the text's first fault (FORMATS.md#header-text)."""
+    """The header of a text, of version 2 where a slot is given, or the text's first fault, or G2 (FORMATS.md#header-text)."""
     lines = Lines(text)
     network = read_network(lines, None)
     roots: List[bytes] = []
@@ -30,10 +30,13 @@ def header_of_text(text: bytes, slot: Optional[int]) -> Header:
         roots.append(read_digits(lines, lines.word(b"root", 2)[1]))
     lines.word(b"end", 1)
     lines.ended()
-    return Header(1 if slot is None else 2, slot or 0, network, tuple(roots))
+    header = Header(1 if slot is None else 2, slot or 0, network, tuple(roots))
+    for first, second in header.equal_roots():
+        raise Fault(f"G2 generals {first} {second}")
+    return header
 
 
-def _whole_header(data: bytes) -> Header:
+def whole_header(data: bytes) -> Header:
     """The header that bytes are, or B3 or B8 (FORMATS.md#bundle)."""
     cursor = Cursor(data, "H9")
     try:
@@ -47,7 +50,7 @@ def _whole_header(data: bytes) -> Header:
 
 def bundle_of_parts(header: bytes, faulty: Sequence[int], exhibits: Sequence[Exhibit]) -> Bundle:
     """The bundle of a header's bytes, of who is held for faulty, and of exhibits, or its first fault (FORMATS.md#bundle)."""
-    known = _whole_header(header)
+    known = whole_header(header)
     bundle = hold(Bundle(known, (), (), ()), faulty)
     if len(exhibits) > MOST_EXHIBITS or any(it.general >= known.network.generals for it in exhibits):
         raise Fault("B7")

@@ -26,6 +26,11 @@ def listed(numbers: Sequence[int]) -> str:
     return ",".join(str(number) for number in numbers) or "-"
 
 
+def equal_root_lines(header: Header) -> List[str]:
+    """The lines of the generals that have the same root, pair by pair (FORMATS.md#equal-roots)."""
+    return [f"equal roots {first} {second}" for first, second in header.equal_roots()]
+
+
 def header_lines(name: str, header: Header) -> List[str]:
     """The lines of a header behind the name of a format (FORMATS.md#shown-text)."""
     net = header.network
@@ -33,7 +38,8 @@ def header_lines(name: str, header: Header) -> List[str]:
     lines += [f"generals {net.generals}", f"traitors {net.traitors}", f"diameter {net.diameter}"]
     lines += [f"orders {net.orders}", f"choice {net.choice}"]
     lines += [f"edge {a} {b}" for a, b in net.edges]
-    return lines + [f"root {general} {root.hex()}" for general, root in enumerate(header.roots)]
+    lines += [f"root {general} {root.hex()}" for general, root in enumerate(header.roots)]
+    return lines + equal_root_lines(header)
 
 
 def _signed(order: int, path: Path) -> str:

@@ -19,11 +19,12 @@ def shown(what: str, **fields: object) -> Value:
     return {"format": what, "version": VERSION, **fields}
 
 
-def header_value(name: str, header: Header) -> Value:
-    """A header of a file of this name (FORMATS.md#the-shown-file)."""
-    return shown("shown header", edges=[list(edge) for edge in header.network.edges], file=name,
-                 network=network_value(header.network), roots=[root.hex() for root in header.roots],
-                 run=header.run_id.hex(), run_version=header.version, slot=header.slot)
+def header_values(name: str, header: Header) -> List[Value]:
+    """A header of a file of this name, and its pairs of equal roots (FORMATS.md#the-shown-file)."""
+    value = shown("shown header", edges=[list(edge) for edge in header.network.edges], file=name,
+                  network=network_value(header.network), roots=[root.hex() for root in header.roots],
+                  run=header.run_id.hex(), run_version=header.version, slot=header.slot)
+    return [value] + [shown("shown equal roots", generals=list(pair)) for pair in header.equal_roots()]
 
 
 def _signed(order: int, path: Path) -> Dict[str, object]:
@@ -63,7 +64,7 @@ def log_values(header: Header, general: int, place: int, data: bytes) -> List[Va
 
 def bundle_values(place: int, bundle: Bundle) -> List[Value]:
     """The objects of a bundle that begins at a byte (FORMATS.md#the-shown-file)."""
-    values = [header_value("bundle", bundle.header), shown("shown faulty", faulty=list(bundle.faulty))]
+    values = header_values("bundle", bundle.header) + [shown("shown faulty", faulty=list(bundle.faulty))]
     values += [shown("shown walk", walk=list(walk)) for walk in bundle.walks]
     place += len(bundle.spell()) - sum(5 + len(exhibit.data) for exhibit in bundle.exhibits)
     for exhibit in bundle.exhibits:
@@ -84,11 +85,11 @@ def campaign_values(bundles: Sequence[Bundle]) -> List[Value]:
 def evidence_values(evidence: Evidence) -> List[Value]:
     """The objects of evidence (FORMATS.md#the-shown-file)."""
     header, claim = evidence.header, evidence.claim
-    values = [header_value("evidence", header)]
+    values = header_values("evidence", header)
     if isinstance(claim, (Missing, Departing)):
         values += log_values(header, evidence.accused, 4 + len(header.spell()) + 6, claim.log)
     if isinstance(claim, Across):
-        values.append(header_value("header", claim.other))
+        values += header_values("header", claim.other)
     return values + [evidence_value(evidence), shown("shown end")]
 
 
@@ -108,14 +109,14 @@ def _faulty_values(name: str, marks: Dict[int, bytes], data: bytes, fault: Fault
     front = _front(data, marks)
     if front is None:
         return [shown("shown fault", fault=fault.words, byte=0)]
-    return [header_value(name, front[0]), shown("shown fault", fault=fault.words, byte=front[1])]
+    return header_values(name, front[0]) + [shown("shown fault", fault=fault.words, byte=front[1])]
 
 
 def _alone_values(data: bytes) -> Tuple[List[Value], bool]:
     """The objects of bytes that are read as a header alone, and whether they are one."""
     cursor = Cursor(data, "H9")
     try:
-        values = [header_value("header", read_header(cursor, None))]
+        values = header_values("header", read_header(cursor, None))
     except Fault as fault:
         return [shown("shown fault", fault=fault.words, byte=0)], False
     whole = cursor.at_end()

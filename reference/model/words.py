@@ -79,8 +79,13 @@ def with_words(text: bytes) -> bytes:
 
 
 def explain(name: bytes) -> Optional[bytes]:
-    """What a name means, or several that are parted by one space; nothing where one is no name (FORMATS.md#words)."""
+    """What a name means, or several that are parted by one space; nothing where one is no name (FORMATS.md#words).
+
+    The empty name has all names.
+    """
     table, asked = rows(), name.decode("latin-1")
+    if not asked:
+        return "".join(f"{row.name}\n" for row in table).encode("latin-1")
     known = {row.name: row for row in reversed(table)}
     names = [asked] if asked in known else asked.split(" ")
     if any(it not in known for it in names):

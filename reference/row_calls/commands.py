@@ -60,7 +60,7 @@ def command_text(row: Row) -> str:
             return "2"
         status, given, error = answered(words.split(), given)
         if error and status > 1:
-            return f"{status} {error.decode('ascii').rstrip()}"
+            return f"{status} {error.decode('utf-8').splitlines()[0]}"
     return f"{status} {output_text(given)}"
 
 

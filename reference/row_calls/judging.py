@@ -3,7 +3,7 @@
 from __future__ import annotations
 
 import hashlib
-from typing import Callable, Dict, Iterator, List, Optional, Tuple
+from typing import Callable, Dict, Iterator, List, Optional, Set, Tuple
 
 from model.answering import own_log, refuted
 from model.audit import Report, judge
@@ -15,6 +15,7 @@ from model.faults import Fault
 from model.follow import departs
 from model.log import Log, Recv, Sign, read_log
 from model.network import Header
+from model.run import play
 from model.scenario import Scenario, read_campaign_text, read_scenario
 
 from .reading import Row, listed
@@ -192,10 +193,23 @@ def campaign_text(data: bytes) -> str:
     return " / ".join(scenario_said(told) for told in read_campaign_text(data))
 
 
+def leaves_taken(data: bytes) -> str:
+    """The leaves under which each general signed in the runs in which it has no script (PROTOCOL.md#keys-and-signatures)."""
+    texts = read_campaign_text(data)
+    taken: List[Set[int]] = [set() for _ in range(texts[0].network.generals)]
+    for told in texts:
+        header, generals = play(told)
+        for general in generals:
+            if general.script is None:
+                signed = [entry for log in general.logs() for entry in log.entries if isinstance(entry, Sign)]
+                taken[general.number] |= {header.leaf(None), *(header.leaf(entry.order) for entry in signed)}
+    return " / ".join(listed(sorted(leaves)) for leaves in taken)
+
+
 # What bytes alone are, by the name of their form.
 FORMS: Dict[str, Callable[[bytes], str]] = {
     "evidence": evidence, "bundle": bundle, "campaign": campaign, "convictions": convictions,
-    "scenario_text": scenario_text, "campaign_text": campaign_text,
+    "scenario_text": scenario_text, "campaign_text": campaign_text, "leaves_taken": leaves_taken,
 }
 
 

@@ -130,7 +130,7 @@ def answered(vector: Vector) -> Vector:
     status, output, error = answer_of(vector)
     vector["status"] = status
     if status == 3:
-        vector["fault"] = error.decode("ascii")[len("fault "):-1]
+        vector["fault"] = error.decode("utf-8").splitlines()[0][len("fault "):]
     else:
         vector["result"] = output_as(output)
     return vector

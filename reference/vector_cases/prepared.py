@@ -64,7 +64,10 @@ def header_text_vectors() -> Iterable[Vector]:
              ("a root of 65 digits", other_line(8, f"root {digits}0")),
              ("a root with a letter that is no digit", other_line(8, f"root {digits[1:]}g")),
              ("bytes behind the line end", pair + "end\n"), ("a tab", pair.replace("root ", "root\t", 1)),
-             ("a bad root in a line that is unfinished", text_of(header_lines()[:6]) + "root 0")]
+             ("a bad root in a line that is unfinished", text_of(header_lines()[:6]) + "root 0"),
+             ("two equal roots, whose digits are of other cases", other_line(8, header_lines()[6].lower())),
+             ("three equal roots", text_of(header_lines(3)[:6] + [f"root {digits}"] * 3 + ["end"])),
+             ("two equal roots and bytes behind the line end", other_line(8, header_lines()[6]) + "end\n")]
     for about, text in cases:
         yield command(about, "header", text)
     yield command("600,001 bytes in a line", "header", b"generals 2" + b" " * 599_991 + b"\n")

@@ -1,5 +1,7 @@
 -- What the job run writes the job audit reads, and accepts.
-use Rattle.std.proofs.Common.{◌≡◌, ◌<◌, ◌++◌, ℕ, Bool, false, inl, inr, List, length, Contains, refl, sym, subst, ◌∙◌}
+use Rattle.std.proofs.Common.{◌≡◌, ◌<◌, ◌++◌, ◌&&◌, ℕ, Bool, true, false, inl, inr, List, [], ◌∷◌, length, Contains, refl, sym, ap, subst, ◌∙◌}
+use Rattle.std.specs.Prelude.{Option, None}
+use Rattle.std.proofs.lemmas.Bool.{le-leb}
 use Rattle.std.specs.Int.{w32, to_be_bytes}
 use Rattle.std.proofs.lemmas.List.{append-nil}
 use Rattle.std.specs.List.{flat_map}
@@ -12,7 +14,8 @@ use Rattle.gen_walks.specs.Walks.{BoundsDiameter}
 use Rattle.gen_walks.proofs.Pairs.{bounds}
 use Rattle.gen_log.specs.Fields.{AreBelow, set_spelling}
 use Rattle.gen_log.specs.Writing.{LogBytes}
-use Rattle.gen_scenario.specs.Scenario.{Scenario, IsScenario}
+use Rattle.gen_plan.specs.EqualRoots.{equal_roots}
+use Rattle.gen_scenario.specs.Scenario.{Scenario, IsScenario, header_of, scripted}
 use Rattle.gen_scenario.proofs.Having.{in_flat}
 use Rattle.gen_campaign.specs.declared.campaign_fault.CampaignFault.{CampaignFault}
 use Rattle.gen_campaign.specs.Campaign.{CampaignBundle, IsCampaign}
@@ -27,10 +30,15 @@ use Rattle.gen_audit.specs.WorldBundle.{HasWalks, IsAcceptable, bundle_of}
 use Rattle.gen_audit.proofs.BundleLaws.{bundle_only}
 use Rattle.gen_audit.proofs.RunBundles.{world_is_bundle}
 use Rattle.gen_audit.proofs.Worlds.{world_is_accepted}
-use Rattle.gen_jobs.specs.Accepted.{IsSound, RunsAreAccepted, RunsAreRead, alone}
+use Rattle.gen_jobs.specs.Accepted.{IsSound, IsStrictlySound, RunsAreAccepted, RunsAreAcceptedBy, RunsAreJudged, RunsAreJudgedBy, RunsAreRead, alone}
+use Rattle.gen_json.specs.OriginData.{Origin}
+use Rattle.gen_jobs.specs.Asking.{AuditsAs, IsAuditedFrom, counts_as_no, has_few, have_few, shared_roots}
 use Rattle.gen_jobs.specs.Audit.{Audits, AuditsShown, IsAudited, is_no}
-use Rattle.gen_jobs.specs.Judging.{JudgesRun, RunsAreJudged}
-use Rattle.gen_jobs.specs.declared.forms.Form.TheVariants.{Text}
+use Rattle.gen_jobs.specs.Holding.{IsHeldAs}
+use Rattle.gen_jobs.specs.Judging.{JudgesRun}
+use Rattle.gen_jobs.specs.declared.asked.Asked.{Asked}
+use Rattle.gen_jobs.specs.declared.faulty.Faulty.{Faulty}
+use Rattle.gen_jobs.specs.declared.faulty.Faulty.TheVariants.{Listed, These}
 use Rattle.gen_jobs.specs.Run.{IsRunAnswer}
 
 -- the bytes of what is shown stand in the bundle's
@@ -85,29 +93,84 @@ yes_is (Agreed order) is = refl
 yes_is (Explained decisions) is = refl
 yes_is (No findings) is = absurd is
 
--- what is audited is the bundle of the run
-same_shown : (input text report : List ℕ) (said negative : Bool) (run : IsRunAnswer input text said) → AreBelow 256 text → (audited : IsAudited text report negative) → audited.shown ≡ alone (bundle_of run.scenario run.walks)
-same_shown input text report said negative run below audited =
+-- what is read of the output of a run is the bundle of the run
+pub shown_alone : (input text : List ℕ) (said : Bool) (run : IsRunAnswer input text said) → AreBelow 256 text → (shown : CampaignBundle) → Spells IsCampaign campaign_spelling text shown → shown ≡ alone (bundle_of run.scenario run.walks)
+shown_alone input text said run below shown spelled =
     let ours = (runs_are_read input text said run below).1 in
-    ok_is {F = CampaignFault} audited.shown (alone (bundle_of run.scenario run.walks)) (sym (campaign_only text audited.shown audited.spelled) ∙ ours)
+    ok_is {F = CampaignFault} shown (alone (bundle_of run.scenario run.walks)) (sym (campaign_only text shown spelled) ∙ ours)
 
 -- and what is made of it
-audits_run : (input text report : List ℕ) (said negative : Bool) (run : IsRunAnswer input text said) → AreBelow 256 text → IsAudited text report negative → Audits Text (bundle_of run.scenario run.walks) report negative
+audits_run : (input text report : List ℕ) (said negative : Bool) (run : IsRunAnswer input text said) → AreBelow 256 text → IsAudited text report negative → Audits None (bundle_of run.scenario run.walks) report negative
 audits_run input text report said negative run below audited =
-    subst (λ (c : CampaignBundle). AuditsShown Text c.alone c.bundles report negative) (same_shown input text report said negative run below audited) audited.audits
+    subst (λ (c : CampaignBundle). AuditsShown None c.alone c.bundles report negative) (shown_alone input text said run below audited.shown audited.spelled) audited.audits
+
+-- the audit of the bundle of a sound run says no no
+accepts : (s : Scenario) (walks : List (List ℕ)) (origin : Option Origin) (report : List ℕ) (negative : Bool) → IsScenario s → HasWalks s walks → IsSound s → Audits origin (bundle_of s walks) report negative → negative ≡ false
+accepts s walks origin report negative ok has sound audits =
+    let fine = is_acceptable s walks ok has sound in
+    audits.negative_is ∙ yes_is audits.verdict (world_is_accepted s walks fine audits.verdict audits.judged)
 
 pub runs_are_accepted : RunsAreAccepted
 runs_are_accepted input text report said negative run below sound audited =
-    let s = run.scenario in
-    let audits = audits_run input text report said negative run below audited in
-    let fine = is_acceptable s run.walks (is_lawful input text said run) run.has_walks sound in
-    audits.negative_is ∙ yes_is audits.verdict (world_is_accepted s run.walks fine audits.verdict audits.judged)
+    accepts run.scenario run.walks None report negative (is_lawful input text said run) run.has_walks sound (audits_run input text report said negative run below audited)
 
 pub runs_are_judged : RunsAreJudged
 runs_are_judged input text report said negative run below audited =
-    let judges : JudgesRun Text run.scenario report negative = record {
+    let judges : JudgesRun None run.scenario report negative = record {
       walks = run.walks;
       has_walks = run.has_walks;
       audits = audits_run input text report said negative run below audited;
     } in
-    record { scenario = run.scenario; spelled = run.spelled; judges = judges }
+    record { scenario = run.scenario; spelled = run.spelled; judges = record { said = report; no = negative; is_said = judges; text_is = refl; negative_is = refl } }
+
+-- ---- the same with what is asked for
+
+-- if no other list is asked for, what is held is what is shown
+as_listed : (faulty : Faulty) (shown held : CampaignBundle) → faulty ≡ Listed → IsHeldAs faulty shown held → held ≡ shown
+as_listed Listed shown held e is = is
+as_listed (These set) shown held e is = absurd cc
+
+pub held_shown : (asked : Asked) (origin : Option Origin) (strict : Bool) (text report : List ℕ) (negative : Bool) (shown : CampaignBundle) → asked.faulty ≡ Listed → (audited : IsAuditedFrom asked origin strict text report negative) → audited.shown ≡ shown → AuditsAs origin strict shown report negative
+held_shown asked origin strict text report negative shown listed audited same =
+    subst (λ (c : CampaignBundle). AuditsAs origin strict c report negative) (as_listed asked.faulty audited.shown audited.held listed audited.held_is ∙ same) audited.answers
+
+audits_by : (input text report : List ℕ) (said negative : Bool) (asked : Asked) (origin : Option Origin) (strict : Bool) (run : IsRunAnswer input text said) → AreBelow 256 text → asked.faulty ≡ Listed → IsAuditedFrom asked origin strict text report negative → AuditsAs origin strict (alone (bundle_of run.scenario run.walks)) report negative
+audits_by input text report said negative asked origin strict run below listed audited =
+    held_shown asked origin strict text report negative (alone (bundle_of run.scenario run.walks)) listed audited (shown_alone input text said run below audited.shown audited.spelled)
+
+-- at most m have scripts
+pub few_scripted : (s : Scenario) → IsStrictlySound s → has_few s.net (scripted s.scripts) ≡ true
+few_scripted s sound = le-leb (length (scripted s.scripts)) s.net.traitors sound.few
+
+-- What says no no counts as no no, if nothing is asked strictly, or else few are held for faulty, whose roots differ.
+pub counts_not : (strict said few : Bool) (shared : List (ℕ × ℕ)) → said ≡ false → (strict ≡ true → few ≡ true) → (strict ≡ true → shared ≡ []) → counts_as_no strict said few shared ≡ false
+counts_not false said few shared not_said enough apart = not_said
+counts_not true said few shared not_said enough apart = rw (not_said, enough refl, apart refl) refl
+
+-- one bundle holds few for faulty if and only if all do
+one_few : (p : Bool) → (p && true) ≡ p
+one_few true = refl
+one_few false = refl
+
+pub runs_are_accepted_by : RunsAreAcceptedBy
+runs_are_accepted_by input text report said negative asked origin strict run below sound strictly listed audited =
+    let s = run.scenario in
+    let b = bundle_of s run.walks in
+    let by = audits_by input text report said negative asked origin strict run below listed audited in
+    let not_said = accepts s run.walks origin by.said by.no (is_lawful input text said run) run.has_walks sound by.is_said in
+    by.negative_is ∙ counts_not strict by.no (have_few (b ∷ [])) (shared_roots (b ∷ [])) not_said
+    (λ e. one_few (has_few s.net (scripted s.scripts)) ∙ few_scripted s (strictly e)) (λ e. (strictly e).apart)
+
+pub runs_are_judged_by : RunsAreJudgedBy
+runs_are_judged_by input text report said negative asked origin strict run below listed audited =
+    let s = run.scenario in
+    let by = audits_by input text report said negative asked origin strict run below listed audited in
+    let judges : JudgesRun origin s by.said by.no = record { walks = run.walks; has_walks = run.has_walks; audits = by.is_said } in
+    let same = one_few (has_few s.net (scripted s.scripts)) in
+    let counts : negative ≡ counts_as_no strict by.no (has_few s.net (scripted s.scripts)) (equal_roots (header_of s)) =
+    by.negative_is ∙ ap (λ (few : Bool). counts_as_no strict by.no few (equal_roots (header_of s))) same in
+    record {
+      scenario = s;
+      spelled = run.spelled;
+      judges = record { said = by.said; no = by.no; is_said = judges; text_is = by.text_is; negative_is = counts };
+    }

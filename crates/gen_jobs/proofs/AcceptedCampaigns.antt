@@ -1,7 +1,8 @@
 -- What the job campaign writes the job audit reads, and accepts.
-use Rattle.std.proofs.Common.{◌≡◌, ◌<◌, ◌∷◌, ℕ, Bool, inl, inr, List, [], map, All, AllPairs, Contains, refl, sym, ap, subst, arith, ◌∙◌}
+use Rattle.std.proofs.Common.{◌≡◌, ◌<◌, ◌∷◌, ℕ, Bool, true, inl, inr, List, [], map, All, AllPairs, Contains, refl, sym, ap, subst, arith, ◌∙◌}
+use Rattle.std.specs.Prelude.{None}
 use Rattle.std.specs.List.{AllZip, flat_map, range_with_len}
-use Rattle.std.proofs.lemmas.List.Elements.{All-contains, Contains-append_right}
+use Rattle.std.proofs.lemmas.List.Elements.{All-contains, All-head, All-tail, Contains-append_right}
 use Rattle.std.proofs.lemmas.List.Kept.{AllPairs-cons}
 use Rattle.std.proofs.lemmas.Slice.Zip.{AllZip-long}
 use Rattle.gen_types.specs.Spelled.{Spells}
@@ -15,7 +16,7 @@ use Rattle.gen_net.specs.Header.{RunHeader}
 use Rattle.gen_net.specs.Version.{height_in, slot_in}
 use Rattle.gen_log.specs.Fields.{AreBelow}
 use Rattle.gen_log.specs.Writing.{LogBytes}
-use Rattle.gen_scenario.specs.Scenario.{Scenario, IsScenario, header_of}
+use Rattle.gen_scenario.specs.Scenario.{Scenario, IsScenario, header_of, scripted}
 use Rattle.gen_scenario.proofs.Having.{in_flat}
 use Rattle.gen_audit.specs.Bundle.{Bundle, IsBundle}
 use Rattle.gen_audit.specs.BundleSpelling.{bundle_spelling}
@@ -27,13 +28,14 @@ use Rattle.gen_campaign.specs.Campaign.{AreRuns, CampaignBundle, IsCampaign, IsR
 use Rattle.gen_campaign.specs.CampaignSpelling.{campaign_front, campaign_spelling}
 use Rattle.gen_campaign.proofs.CampaignLaws.{campaign_only}
 use Rattle.gen_campaign.specs.CampaignText.{HasSlot, MayPrecede, SpellsTexts}
-use Rattle.gen_jobs.specs.Accepted.{IsSound}
-use Rattle.gen_jobs.specs.AcceptedCampaigns.{CampaignsAreAccepted, CampaignsAreRead, together}
+use Rattle.gen_jobs.specs.Accepted.{IsSound, IsSoundIf}
+use Rattle.gen_jobs.specs.AcceptedCampaigns.{CampaignsAreAccepted, CampaignsAreAcceptedBy, CampaignsAreRead, together}
+use Rattle.gen_plan.specs.EqualRoots.{equal_roots}
+use Rattle.gen_jobs.specs.Asking.{AuditsAs, has_few, have_few, shared_roots}
 use Rattle.gen_jobs.specs.Audit.{AuditsShown, AuditsRuns, IsAudited}
 use Rattle.gen_jobs.specs.Campaigning.{IsCampaignRun}
-use Rattle.gen_jobs.specs.declared.forms.Form.TheVariants.{Text}
 use Rattle.gen_jobs.specs.Run.{IsOfRun}
-use Rattle.gen_jobs.proofs.Accepted.{is_acceptable, shown_bytes}
+use Rattle.gen_jobs.proofs.Accepted.{counts_not, few_scripted, held_shown, is_acceptable, shown_bytes}
 
 -- ---- the scenarios of a campaign
 
@@ -120,19 +122,53 @@ spelled_together input text said run below =
 pub campaigns_are_read : CampaignsAreRead
 campaigns_are_read input text said run below = campaign_only text (together run.makes.0) (spelled_together input text said run below)
 
--- what is audited are the bundles of the runs
-audits_runs : (input text report : List ℕ) (said negative : Bool) (run : IsCampaignRun input text said) → AreBelow 256 text → IsAudited text report negative → AuditsRuns Text run.makes.0 report negative
+-- what is read of the output of a campaign are the bundles of the runs
+shown_together : (input text : List ℕ) (said : Bool) (run : IsCampaignRun input text said) → AreBelow 256 text → (shown : CampaignBundle) → Spells IsCampaign campaign_spelling text shown → shown ≡ together run.makes.0
+shown_together input text said run below shown spelled =
+    ok_is {F = CampaignFault} shown (together run.makes.0) (sym (campaign_only text shown spelled) ∙ campaigns_are_read input text said run below)
+
+-- and they are audited
+audits_runs : (input text report : List ℕ) (said negative : Bool) (run : IsCampaignRun input text said) → AreBelow 256 text → IsAudited text report negative → AuditsRuns None run.makes.0 report negative
 audits_runs input text report said negative run below audited =
-    let ours = campaigns_are_read input text said run below in
-    let same : audited.shown ≡ together run.makes.0 = ok_is {F = CampaignFault} audited.shown (together run.makes.0) (sym (campaign_only text audited.shown audited.spelled) ∙ ours) in
-    subst (λ (c : CampaignBundle). AuditsShown Text c.alone c.bundles report negative) same audited.audits
+    subst (λ (c : CampaignBundle). AuditsShown None c.alone c.bundles report negative) (shown_together input text said run below audited.shown audited.spelled) audited.audits
+
+-- each bundle of a sound campaign supports a yes
+all_supported : (input text : List ℕ) (said : Bool) (run : IsCampaignRun input text said) → All IsSound run.runs → All IsSupported run.makes.0
+all_supported input text said run sound = All_of IsSupported run.makes.0 (λ b at.
+    let r = of_run run.runs run.makes.0 run.makes.1 b at in
+    let ok = lawful run.spelled.behind run.runs run.spelled.texts_are r.0 r.1 in
+    let fine = is_acceptable r.0 r.2.0 ok r.2.1 (All-contains IsSound run.runs r.0 sound r.1) in
+    subst IsSupported (sym r.2.2) (world_is_supported r.0 r.2.0 fine))
 
 pub campaigns_are_accepted : CampaignsAreAccepted
 campaigns_are_accepted input text report said negative run below sound audited =
-    let bundles = run.makes.0 in
     let audits = audits_runs input text report said negative run below audited in
-    audits.supported.1 (All_of IsSupported bundles (λ b at.
-    let r = of_run run.runs bundles run.makes.1 b at in
-    let ok = lawful run.spelled.behind run.runs run.spelled.texts_are r.0 r.1 in
-    let fine = is_acceptable r.0 r.2.0 ok r.2.1 (All-contains IsSound run.runs r.0 sound r.1) in
-    subst IsSupported (sym r.2.2) (world_is_supported r.0 r.2.0 fine)))
+    audits.supported.1 (all_supported input text said run sound)
+
+-- ---- the same with what is asked for
+
+few_held : (strict : Bool) (runs : List Scenario) (bundles : List Bundle) → AllZip IsOfRun runs bundles → All (IsSoundIf strict) runs → strict ≡ true → have_few bundles ≡ true
+few_held strict [] [] are sound e = refl
+few_held strict [] (b ∷ bundles) are sound e = absurd are
+few_held strict (s ∷ runs) [] are sound e = absurd are
+few_held strict (s ∷ runs) (b ∷ bundles) are sound e =
+    let of_bundle : has_few b.header.network b.faulty ≡ has_few s.net (scripted s.scripts) = ap (λ (k : Bundle). has_few k.header.network k.faulty) are.0.2 in
+    let first = of_bundle ∙ few_scripted s (All-head (IsSoundIf strict) s runs sound e) in
+    rw first (few_held strict runs bundles are.1 (All-tail (IsSoundIf strict) s runs sound) e)
+
+roots_apart : (strict : Bool) (runs : List Scenario) (bundles : List Bundle) → AllZip IsOfRun runs bundles → All (IsSoundIf strict) runs → strict ≡ true → shared_roots bundles ≡ []
+roots_apart strict [] [] are sound e = refl
+roots_apart strict [] (b ∷ bundles) are sound e = absurd are
+roots_apart strict (s ∷ runs) [] are sound e = absurd are
+roots_apart strict (s ∷ runs) (b ∷ bundles) are sound e =
+    ap (λ (k : Bundle). equal_roots k.header) are.0.2 ∙ (All-head (IsSoundIf strict) s runs sound e).apart
+
+pub campaigns_are_accepted_by : CampaignsAreAcceptedBy
+campaigns_are_accepted_by input text report said negative asked origin strict run below sound strictly listed audited =
+    let bundles = run.makes.0 in
+    let are = run.makes.1 in
+    let same = shown_together input text said run below audited.shown audited.spelled in
+    let by : AuditsAs origin strict (together bundles) report negative = held_shown asked origin strict text report negative (together bundles) listed audited same in
+    let not_said = by.is_said.supported.1 (all_supported input text said run sound) in
+    by.negative_is ∙ counts_not strict by.no (have_few bundles) (shared_roots bundles) not_said
+    (few_held strict run.runs bundles are strictly) (roots_apart strict run.runs bundles are strictly)

@@ -5,7 +5,7 @@ use Rattle.std.specs.List.{AllZip}
 use Rattle.std.proofs.lemmas.List.{take_more, take_all, take-append-drop, drop_more}
 use Rattle.std.proofs.lemmas.List.Elements.{All-push}
 use Rattle.gen_convict.specs.Across.{IsFirstAcross, ShownRun}
-use Rattle.gen_convict.specs.AcrossLaws.{AreConvictedAcross}
+use Rattle.gen_convict.specs.AcrossLaws.{AreConvictedAcross, ConvictsAcrossWhereHeld}
 use Rattle.gen_convict.specs.Contradictions.{AcrossRuns, Claim}
 use Rattle.gen_convict.specs.Evidence.{Accusation}
 use Rattle.gen_convict.specs.EvidenceSpelling.{evidence_spelling}
@@ -87,15 +87,18 @@ second_text d claim = d
 
 -- the two texts that are told are the first ones
 pub accuses_across : (bundles : List Bundle) (convictions : List Accusation) (general : ℕ) (text : List ℕ) (negative : Bool) → AreConvictedAcross (shown_bundles bundles) convictions
-    → TellsAcross convictions general text negative → AccusesAcross bundles general text negative
-accuses_across bundles convictions general text false are (v, w, inside, is) =
+    → ConvictsAcrossWhereHeld (shown_bundles bundles) convictions → TellsAcross convictions general text negative → AccusesAcross bundles general text negative
+accuses_across bundles convictions general text false are held (v, w, inside, is) =
     let first = are.first (record { accused = general; claim = AcrossRuns v w }) inside in
     let one : v ≡ first.1.0 = ap (first_text v) first.1.2 in
     let other : w ≡ first.1.1 = ap (second_text v) first.1.2 in
     let here : IsFirstAcross (shown_bundles bundles) general v w = subst (λ (x : RunText). IsFirstAcross (shown_bundles bundles) general x w) (sym one) (subst (λ (y : RunText). IsFirstAcross (shown_bundles bundles) general first.1.0 y) (sym other) first.1.3) in
-    (v, w, first.0, here, is)
-accuses_across bundles convictions general text true are (none, is) =
-    (λ x y under first. none (record { accused = general; claim = AcrossRuns x y }) (are.each general x y under first) refl, is)
+    (v, w, first.0, here, (held general first.0).1 (record { accused = general; claim = AcrossRuns v w }, inside, refl), is)
+accuses_across bundles convictions general text true are held (none, is) = (
+  (λ x y under first. none (record { accused = general; claim = AcrossRuns x y }) (are.each general x y under first) refl),
+  (λ under hold. let one = (held general under).0 hold in none one.0 one.1 one.2),
+  is,
+)
 
 -- a claim that is told as one across two runs is that
 pub is_across : (k : claims.Claim) (v w : RunText) → told k ≡ AcrossRuns v w → (x : RunText) × (y : RunText) × (k ≡ Across x y)

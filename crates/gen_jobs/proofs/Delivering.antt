@@ -21,6 +21,7 @@ by_fault A F old new (faults.Campaign b) never h = h
 by_fault A F old new (faults.Evidence e) never h = h
 by_fault A F old new (faults.Log e) never h = h
 by_fault A F old new (faults.Seed e) never h = h
+by_fault A F old new (faults.EqualRoots a b) never h = h
 by_fault A F old new faults.OtherRun never h = h
 by_fault A F old new faults.Open never h = h
 
@@ -60,6 +61,7 @@ kept_at old new (faults.Campaign b) k = k
 kept_at old new (faults.Evidence e) k = k
 kept_at old new (faults.Log e) k = k
 kept_at old new (faults.Seed e) k = k
+kept_at old new (faults.EqualRoots a b) k = k
 kept_at old new faults.OtherRun k = k
 kept_at old new faults.Open k = k
 
@@ -88,6 +90,7 @@ unread A F old new (faults.Campaign b) h = absurd h
 unread A F old new (faults.Evidence e) h = absurd h
 unread A F old new (faults.Log e) h = absurd h
 unread A F old new (faults.Seed e) h = absurd h
+unread A F old new (faults.EqualRoots a b) h = absurd h
 unread A F old new faults.OtherRun h = absurd h
 unread A F old new faults.Open h = absurd h
 
@@ -106,6 +109,7 @@ untaken input (faults.Campaign b) h = absurd h
 untaken input (faults.Evidence e) h = absurd h
 untaken input (faults.Log e) h = absurd h
 untaken input (faults.Seed e) h = absurd h
+untaken input (faults.EqualRoots a b) h = absurd h
 untaken input faults.OtherRun h = absurd h
 untaken input faults.Open h = absurd h
 

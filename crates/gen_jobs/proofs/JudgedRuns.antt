@@ -1,5 +1,6 @@
 -- The judgement on the bundle of a scenario's run, as the job judge writes it.
 use Rattle.std.proofs.Common.{◌≡◌, ◌↔◌, ℕ, Bool, false, List, sym, subst}
+use Rattle.std.specs.Prelude.{Option}
 use Rattle.gen_convict.specs.Convictions.{AreConvictions, ConvictsWhereHeld}
 use Rattle.gen_convict.specs.Evidence.{Accusation}
 use Rattle.gen_scenario.specs.Scenario.{Scenario, IsScenario, scripted}
@@ -11,20 +12,18 @@ use Rattle.gen_audit.specs.Verdict.{IsVerdict}
 use Rattle.gen_audit.specs.WorldBundle.{AreWalksOfRun, HasWalks, bundle_of}
 use Rattle.gen_audit.specs.declared.verdicts.Verdict.{Verdict}
 use Rattle.gen_audit.proofs.RunBundles.{are_listed, are_members}
-use Rattle.gen_jobs.specs.Asking.{IsJudgedAs}
 use Rattle.gen_jobs.specs.Audit.{is_no, judgement_text}
-use Rattle.gen_jobs.specs.Judging.{IsJudged, JudgesRun}
-use Rattle.gen_jobs.specs.declared.forms.Form.{Form}
-use Rattle.gen_jobs.specs.declared.forms.Form.TheVariants.{Text}
+use Rattle.gen_jobs.specs.Judging.{JudgesRun}
+use Rattle.gen_json.specs.OriginData.{Origin}
 use Rattle.gen_jobs.proofs.Audited.{supported}
 
 -- what is said of a verdict, its convictions and their text makes it the judgement
-pub judges : (form : Form) (s : Scenario) (walks : List (List ℕ)) → HasWalks s walks → (v : Verdict) (cs : List Accusation) (text : List ℕ) (negative : Bool)
+pub judges : (origin : Option Origin) (s : Scenario) (walks : List (List ℕ)) → HasWalks s walks → (v : Verdict) (cs : List Accusation) (text : List ℕ) (negative : Bool)
     → IsVerdict (bundle_of s walks) v → Headline (bundle_of s walks) v
     → AreConvictions (bundle_of s walks).header (bundle_of s walks).exhibits cs
     → ConvictsWhereHeld (bundle_of s walks).header (bundle_of s walks).exhibits cs
-    → text ≡ judgement_text form (bundle_of s walks).header (bundle_of s walks).faulty v cs → negative ≡ is_no v → JudgesRun form s text negative
-judges form s walks has v cs text negative judged headline convicted held text_is negative_is =
+    → text ≡ judgement_text origin (bundle_of s walks) v cs → negative ≡ is_no v → JudgesRun origin s text negative
+judges origin s walks has v cs text negative judged headline convicted held text_is negative_is =
     let is : (negative ≡ false) ↔ IsSupported (bundle_of s walks) = subst (λ (b : Bool). (b ≡ false) ↔ IsSupported (bundle_of s walks)) (sym negative_is) (supported (bundle_of s walks) v headline) in
     record {
       walks = walks;
@@ -48,11 +47,3 @@ scripted_below s ok = (are_members s ok).below
 
 pub walks_listed : (s : Scenario) (rest : List ℕ) (walks : List (List ℕ)) → IsScenario s → AreWalksOfRun s.net rest walks → AreListedWalks s.net.generals walks
 walks_listed s rest walks ok are = are_listed s rest walks ok are
-
--- what doesn't count `explained` as a no is the judgement itself
-pub judged_plainly : (input text : List ℕ) (negative : Bool) → IsJudgedAs Text false input text negative → IsJudged input text negative
-judged_plainly input text negative is = record {
-  scenario = is.scenario;
-  spelled = is.spelled;
-  judges = subst (λ (b : Bool). JudgesRun Text is.scenario text b) (sym is.judges.2) is.judges.1;
-}

@@ -23,6 +23,7 @@ within input (Failed (faults.Campaign f)) le = le
 within input (Failed (faults.Evidence f)) le = le
 within input (Failed (faults.Log f)) le = le
 within input (Failed (faults.Seed f)) le = le
+within input (Failed (faults.EqualRoots a b)) le = le
 within input (Failed faults.OtherRun) le = le
 within input (Failed faults.Open) le = le
 

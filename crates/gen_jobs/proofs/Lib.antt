@@ -12,6 +12,7 @@ pub mod Held
 pub mod JudgedRuns
 pub mod Known
 pub mod Named
+pub mod Planned
 pub mod Reading
 pub mod RunsOf
 pub mod Shown

@@ -1,11 +1,11 @@
 -- What the judgements on what is shown make of its text.
 use Rattle.std.proofs.Common.{◌≡◌, ◌↔◌, ℕ, Bool, true, false, not, List, [], ◌∷◌, map, ◌++◌, refl, sym, subst, ◌∙◌}
-use Rattle.std.specs.Prelude.{All}
+use Rattle.std.specs.Prelude.{All, Option, Some, None}
 use Rattle.std.specs.Bool.{Decides}
 use Rattle.std.proofs.lemmas.List.{append-nil}
 use Rattle.std.specs.List.{AllZip}
 use Rattle.std.proofs.lemmas.List.Elements.{All-nil, All-cons, All-head, All-tail}
-use Rattle.gen_convict.specs.AcrossLaws.{AreConvictedAcross}
+use Rattle.gen_convict.specs.AcrossLaws.{AreConvictedAcross, AreEvidenceAcross, ConvictsAcrossWhereHeld}
 use Rattle.gen_convict.specs.Evidence.{Accusation, told_of}
 use Rattle.gen_audit.specs.Bundle.{Bundle}
 use Rattle.gen_audit.specs.Headline.{IsYes}
@@ -17,8 +17,7 @@ use Rattle.gen_campaign.specs.Campaign.{AreShown}
 use Rattle.gen_campaign.specs.Judged.{AreJudged, AreYes, IsJudged, shown_bundles}
 use Rattle.gen_report.specs.VerdictText.{verdict_text}
 use Rattle.gen_jobs.specs.Audit.{AuditsShown, is_no, judgement_text, judgements_text, shown_text}
-use Rattle.gen_jobs.specs.declared.forms.Form.{Form}
-use Rattle.gen_jobs.specs.declared.forms.Form.TheVariants.{Text, Json}
+use Rattle.gen_json.specs.OriginData.{Origin}
 
 abbrev says : Judgement → Type 0
 says j = IsYes j.verdict
@@ -49,26 +48,26 @@ turned false (Explained decisions) one other = let e : false ≡ true = other tt
 turned false (No findings) one other = refl
 
 -- what is shown alone has the text of its one judgement
-alone_text : (form : Form) (b : Bundle) (j : Judgement) (across : List Accusation)
-    → shown_text form (record { alone = true; bundles = b ∷ [] }) (j ∷ []) across ≡ judgement_text form b.header b.faulty j.verdict (map told_of j.convictions.items)
-alone_text Text b j across = append-nil (verdict_text b.header j.verdict (map told_of j.convictions.items))
-alone_text Json b j across = refl
+alone_text : (origin : Option Origin) (b : Bundle) (j : Judgement) (across : List Accusation)
+    → shown_text origin (record { alone = true; bundles = b ∷ [] }) (j ∷ []) across ≡ judgement_text origin b j.verdict (map told_of j.convictions.items)
+alone_text None b j across = append-nil (verdict_text b.header j.verdict (map told_of j.convictions.items))
+alone_text (Some o) b j across = refl
 
 -- several runs have the text of all judgements
-runs_text : (form : Form) (bundles : List Bundle) (js : List Judgement) (across : List Accusation)
-    → shown_text form (record { alone = false; bundles = bundles }) js across ≡ judgements_text form bundles js across
-runs_text Text bundles js across = refl
-runs_text Json bundles js across = refl
+runs_text : (origin : Option Origin) (bundles : List Bundle) (js : List Judgement) (across : List Accusation)
+    → shown_text origin (record { alone = false; bundles = bundles }) js across ≡ judgements_text origin bundles js across
+runs_text None bundles js across = refl
+runs_text (Some o) bundles js across = refl
 
 -- the judgements of what is shown, with their text, are what the job audit answers
-pub audits_shown : (form : Form) (alone : Bool) (bundles : List Bundle) (js : List Judgement) (across : List Accusation) (said : Bool) (text : List ℕ)
-    → AreShown alone bundles → AreJudged bundles js → AreConvictedAcross (shown_bundles bundles) across → Decides said (AreYes js)
-    → text ≡ shown_text form (record { alone = alone; bundles = bundles }) js across → AuditsShown form alone bundles text (not said)
-audits_shown form true [] js across said text shown judged convicted decides is = shown
-audits_shown form true (b ∷ c ∷ others) js across said text shown judged convicted decides is = shown
-audits_shown form true (b ∷ []) [] across said text shown judged convicted decides is = absurd judged
-audits_shown form true (b ∷ []) (j ∷ k ∷ js) across said text shown judged convicted decides is = absurd judged.1
-audits_shown form true (b ∷ []) (j ∷ []) across said text shown judged convicted decides is =
+pub audits_shown : (origin : Option Origin) (alone : Bool) (bundles : List Bundle) (js : List Judgement) (across : List Accusation) (said : Bool) (text : List ℕ)
+    → AreShown alone bundles → AreJudged bundles js → AreConvictedAcross (shown_bundles bundles) across → ConvictsAcrossWhereHeld (shown_bundles bundles) across → AreEvidenceAcross across → Decides said (AreYes js)
+    → text ≡ shown_text origin (record { alone = alone; bundles = bundles }) js across → AuditsShown origin alone bundles text (not said)
+audits_shown origin true [] js across said text shown judged convicted held lawful decides is = shown
+audits_shown origin true (b ∷ c ∷ others) js across said text shown judged convicted held lawful decides is = shown
+audits_shown origin true (b ∷ []) [] across said text shown judged convicted held lawful decides is = absurd judged
+audits_shown origin true (b ∷ []) (j ∷ k ∷ js) across said text shown judged convicted held lawful decides is = absurd judged.1
+audits_shown origin true (b ∷ []) (j ∷ []) across said text shown judged convicted held lawful decides is =
     let one : IsJudged b j = judged.0 in
     let both = yes_supported (b ∷ []) (j ∷ []) judged in
     let turn = not_false said in
@@ -79,14 +78,14 @@ audits_shown form true (b ∷ []) (j ∷ []) across said text shown judged convi
       convictions = map told_of j.convictions.items;
       convicted = one.convictions;
       held = one.held;
-      text_is = is ∙ alone_text form b j across;
+      text_is = is ∙ alone_text origin b j across;
       negative_is = turned said j.verdict (λ e. All-head says j [] (decides.0 e)) (λ y. decides.1 (All-cons says j [] y (All-nil says)));
       supported = (
         (λ e. All-head IsSupported b [] (both.0 (decides.0 (turn.0 e)))),
         (λ h. turn.1 (decides.1 (both.1 (All-cons IsSupported b [] h (All-nil IsSupported))))),
       );
     }
-audits_shown form false bundles js across said text shown judged convicted decides is =
+audits_shown origin false bundles js across said text shown judged convicted held lawful decides is =
     let both = yes_supported bundles js judged in
     let turn = not_false said in
     record {
@@ -94,6 +93,8 @@ audits_shown form false bundles js across said text shown judged convicted decid
       judged = judged;
       across = across;
       convicted = convicted;
-      text_is = is ∙ runs_text form bundles js across;
+      held = held;
+      lawful = lawful;
+      text_is = is ∙ runs_text origin bundles js across;
       supported = ((λ e. both.0 (decides.0 (turn.0 e))), (λ h. turn.1 (decides.1 (both.1 h))));
     }

@@ -7,6 +7,7 @@ use Rattle.gen_campaign.specs.Campaign.{CampaignBundle, IsCampaign}
 use Rattle.gen_campaign.specs.CampaignSpelling.{campaign_spelling}
 use Rattle.gen_campaign.specs.Judged.{shown_bundles}
 use Rattle.gen_convict.specs.Across.{IsFirstAcross}
+use Rattle.gen_convict.specs.AcrossLaws.{HoldAcross}
 use Rattle.gen_convict.specs.declared.run_texts.RunText.{RunText}
 use Rattle.gen_convict.specs.Contradictions.{AcrossRuns, Claim}
 use Rattle.gen_convict.specs.Evidence.{Accusation}
@@ -61,14 +62,17 @@ AccusesWithin bundles general text false =
     × All (HoldsNone general) before × Accuses bundle general text false
 AccusesWithin bundles general text true = All (HoldsNone general) bundles × (text ≡ [])
 
--- The text is evidence of the first two texts by which the exhibits of two runs hold a claim against the
--- general. Otherwise there are no such two, the text is empty, and it says no.
+-- The exhibits of two runs hold two texts of the general that contradict each other across these runs, and
+-- the text is evidence of the first two such texts. Otherwise the exhibits hold no such two, the text is
+-- empty, and it says no.
 abbrev pub AccusesAcross : List Bundle → ℕ → List ℕ → Bool → Type 0
 AccusesAcross bundles general text false =
     (x : RunText) × (y : RunText) × (general < 16) × IsFirstAcross (shown_bundles bundles) general x y
+    × HoldAcross (shown_bundles bundles) general
     × (text ≡ evidence_spelling x.header (record { accused = general; claim = AcrossRuns x y }))
 AccusesAcross bundles general text true =
-    ((x y : RunText) → general < 16 → IsFirstAcross (shown_bundles bundles) general x y → ⊥) × (text ≡ [])
+    ((x y : RunText) → general < 16 → IsFirstAcross (shown_bundles bundles) general x y → ⊥)
+    × (general < 16 → HoldAcross (shown_bundles bundles) general → ⊥) × (text ≡ [])
 
 -- the text is evidence within a run, if any run holds a claim against the general; else evidence across runs
 abbrev pub AccusesRuns : List Bundle → ℕ → List ℕ → Bool → Type 0

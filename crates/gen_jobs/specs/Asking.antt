@@ -1,10 +1,12 @@
--- What jobs make of an input if runs, a set or a form are asked for, or if `explained` counts as a no.
-use Rattle.std.specs.Prelude.{ℕ, ◌≡◌, ◌⊎◌, ◌||◌, Bool, false, true, not, nat_le, List, [], ◌∷◌, length, Some, Err}
+-- What jobs make of an input if runs, a set or a form are asked for, or if it is asked strictly what counts
+-- as a no.
+use Rattle.std.specs.Prelude.{ℕ, ◌≡◌, ◌⊎◌, ◌==◌, ◌||◌, Bool, false, true, not, nat_le, List, [], ◌∷◌, ◌++◌, length, Option, Some, None, Err}
 use Rattle.std.specs.List.{list_all}
 use Rattle.gen_types.specs.Spelled.{Spells}
 use Rattle.gen_net.specs.Header.{run_id_of}
 use Rattle.gen_net.specs.Network.{Network}
-use Rattle.gen_scenario.specs.Scenario.{Scenario, scripted}
+use Rattle.gen_plan.specs.EqualRoots.{equal_roots}
+use Rattle.gen_scenario.specs.Scenario.{Scenario, header_of, scripted}
 use Rattle.gen_report.specs.Scenario.{SpellsScenario}
 use Rattle.gen_report.specs.declared.scenario_text.ScenarioText.TheVariants as texts
 use Rattle.gen_audit.specs.Bundle.{Bundle}
@@ -14,6 +16,8 @@ use Rattle.gen_campaign.specs.Campaign.{CampaignBundle, IsCampaign}
 use Rattle.gen_campaign.specs.CampaignReading.{whole_campaign}
 use Rattle.gen_campaign.specs.CampaignSpelling.{campaign_spelling}
 use Rattle.gen_campaign.specs.declared.campaign_fault.CampaignFault.{CampaignFault}
+use Rattle.gen_json.specs.OriginData.{Origin}
+use Rattle.gen_show.specs.HeaderText.{equal_roots_lines}
 use Rattle.gen_jobs.specs.Accusing.{AccusesRuns}
 use Rattle.gen_jobs.specs.AskedRuns.{AreAsked, run_ids}
 use Rattle.gen_jobs.specs.Audit.{AuditsShown, IsAuditFault}
@@ -21,12 +25,14 @@ use Rattle.gen_jobs.specs.Checking.{IsEvidenceFault, Tells}
 use Rattle.gen_jobs.specs.Drawing.{DrawsForm}
 use Rattle.gen_jobs.specs.Holding.{IsHeldAs, held_fault}
 use Rattle.gen_jobs.specs.Judging.{JudgesRun}
+use Rattle.gen_jobs.specs.Origins.{nothing_asked, origin_in}
 use Rattle.gen_jobs.specs.declared.asked.Asked.{Asked}
 use Rattle.gen_jobs.specs.declared.asked_runs.AskedRuns.{AskedRuns}
+use Rattle.gen_jobs.specs.declared.faulty.Faulty.TheVariants.{Listed}
 use Rattle.gen_jobs.specs.declared.ends.JobFault.{JobFault}
 use Rattle.gen_jobs.specs.declared.ends.JobFault.TheVariants as faults
 use Rattle.gen_jobs.specs.declared.forms.Form.{Form}
-use Rattle.gen_jobs.specs.declared.forms.Form.TheVariants.{Text}
+use Rattle.gen_jobs.specs.declared.forms.Form.TheVariants.{Text, Json}
 
 -- memory was refused, or the runs with these ids are not the ones that are asked for
 abbrev pub OthersAsked : AskedRuns → List (List ℕ) → JobFault → Type 0
@@ -92,32 +98,64 @@ has_few net faulty = nat_le (length faulty) net.traitors
 abbrev pub have_few : List Bundle → Bool
 have_few bundles = list_all (λ b. has_few b.header.network b.faulty) bundles
 
--- What says no counts as a no. If it is asked strictly, a yes counts as a no too if more than m generals are
--- held for faulty, for its verdict is then `explained` and not `agreed`.
-abbrev pub counts_as_no : Bool → Bool → Bool → Bool
-counts_as_no false said few = said
-counts_as_no true said few = said || not few
+-- the pairs of generals that have the same root in what is shown: those of its first header, since runs of
+-- one campaign have the same roots
+abbrev pub shared_roots : List Bundle → List (ℕ × ℕ)
+shared_roots [] = []
+shared_roots (b ∷ bundles) = equal_roots b.header
+
+-- What says no counts as a no. If it is asked strictly, a yes counts as a no too in two cases. More than m
+-- generals are held for faulty, for its verdict is then `explained` and not `agreed`. Or two generals have
+-- the same root, for one owner of keys is then counted as two.
+abbrev pub counts_as_no : Bool → Bool → Bool → List (ℕ × ℕ) → Bool
+counts_as_no false said few shared = said
+counts_as_no true said few shared = said || (not few || not (length shared == 0))
+
+-- The text of an answer: what is said, and behind it a line for each pair of generals that have the same
+-- root, if it is asked strictly and not as JSON, which tells where the answer comes from.
+abbrev pub counted_text : Option Origin → Bool → List ℕ → List (ℕ × ℕ) → List ℕ
+counted_text None true said shared = said ++ equal_roots_lines shared
+counted_text None false said shared = said
+counted_text (Some origin) strict said shared = said
+
+-- Something is said, and this is how it counts.
+pub record Counts (origin : Option Origin) (strict few : Bool) (shared : List (ℕ × ℕ))
+    (IsSaid : List ℕ → Bool → Type 0) (text : List ℕ) (negative : Bool) : Type 0 where
+  pub said : List ℕ
+  pub no : Bool
+  pub is_said : IsSaid said no
+  pub text_is : text ≡ counted_text origin strict said shared
+  pub negative_is : negative ≡ counts_as_no strict no few shared
 
 -- ---- the answers
 
--- the text is that of the audit of what is shown, in this form, and this is whether it counts as a no
-abbrev pub AuditsAs : Form → Bool → CampaignBundle → List ℕ → Bool → Type 0
-AuditsAs form strict shown text negative =
-    (said : Bool) × AuditsShown form shown.alone shown.bundles text said
-    × (negative ≡ counts_as_no strict said (have_few shown.bundles))
+-- The text is that of the audit of what is shown: as text, or as JSON with where the answer comes from. And
+-- this is whether it counts as a no.
+abbrev pub AuditsAs : Option Origin → Bool → CampaignBundle → List ℕ → Bool → Type 0
+AuditsAs origin strict shown text negative =
+    Counts origin strict (have_few shown.bundles) (shared_roots shown.bundles)
+    (AuditsShown origin shown.alone shown.bundles) text negative
 
 -- the text is that of the judgement on the bundle or campaign in the input, of the runs that are asked for
 abbrev pub IsAuditedAs : AskedRuns → Bool → List ℕ → List ℕ → Bool → Type 0
-IsAuditedAs asked strict input text negative = Shows asked (AuditsAs Text strict) input text negative
+IsAuditedAs asked strict input text negative = Shows asked (AuditsAs None strict) input text negative
 
--- the same in a form
+-- the same in a form, of an input without a name
 abbrev pub IsAuditedIn : Form → AskedRuns → Bool → List ℕ → List ℕ → Bool → Type 0
-IsAuditedIn form asked strict input text negative = Shows asked (AuditsAs form strict) input text negative
+IsAuditedIn form asked strict input text negative =
+    Shows asked (AuditsAs (origin_in form None (record { runs = asked; faulty = Listed }) input) strict) input
+    text negative
 
--- the same in a form, with the generals that are asked for held for faulty
-abbrev pub IsAuditedBy : Asked → Form → Bool → List ℕ → List ℕ → Bool → Type 0
-IsAuditedBy asked form strict input text negative =
-    ShowsHeld asked (AuditsAs form strict) input text negative
+-- the same with the generals that are asked for held for faulty: as text, or as JSON with where the answer
+-- comes from
+abbrev pub IsAuditedFrom : Asked → Option Origin → Bool → List ℕ → List ℕ → Bool → Type 0
+IsAuditedFrom asked origin strict input text negative =
+    ShowsHeld asked (AuditsAs origin strict) input text negative
+
+-- the same in a form, of an input with this name
+abbrev pub IsAuditedBy : Asked → Form → Bool → Option (List ℕ) → List ℕ → List ℕ → Bool → Type 0
+IsAuditedBy asked form strict name input text negative =
+    IsAuditedFrom asked (origin_in form name asked input) strict input text negative
 
 -- the text is the picture of what is shown, and doesn't say no
 abbrev pub DrawsAll : CampaignBundle → List ℕ → Bool → Type 0
@@ -163,16 +201,22 @@ abbrev pub IsEvidenceFaultOf : AskedRuns → List ℕ → JobFault → Type 0
 IsEvidenceFaultOf asked input faults.OtherRun = IsOfOther asked input
 IsEvidenceFaultOf asked input fault = IsEvidenceFault input fault
 
--- the text is that of the judgement on the bundle of the scenario's run, in this form, and this is whether
--- it counts as a no
-abbrev pub JudgesRunAs : Form → Bool → Scenario → List ℕ → Bool → Type 0
-JudgesRunAs form strict s text negative =
-    (said : Bool) × JudgesRun form s text said
-    × (negative ≡ counts_as_no strict said (has_few s.net (scripted s.scripts)))
+-- The text is that of the judgement on the bundle of the scenario's run: as text, or as JSON with where the
+-- answer comes from. And this is whether it counts as a no.
+abbrev pub JudgesRunAs : Option Origin → Bool → Scenario → List ℕ → Bool → Type 0
+JudgesRunAs origin strict s text negative =
+    Counts origin strict (has_few s.net (scripted s.scripts)) (equal_roots (header_of s)) (JudgesRun origin s)
+    text negative
 
--- The text is that of the judgement on the run of the scenario that the input spells, in this form, and this
--- is whether it counts as a no.
-pub record IsJudgedAs (form : Form) (strict : Bool) (input text : List ℕ) (negative : Bool) : Type 0 where
+-- The text is that of the judgement on the run of the scenario that the input spells: as text, or as JSON
+-- with where the answer comes from. And this is whether it counts as a no.
+pub record IsJudgedFrom (origin : Option Origin) (strict : Bool) (input text : List ℕ) (negative : Bool)
+    : Type 0 where
   pub scenario : Scenario
   pub spelled : SpellsScenario input (texts.Signed scenario)
-  pub judges : JudgesRunAs form strict scenario text negative
+  pub judges : JudgesRunAs origin strict scenario text negative
+
+-- the same in a form, of an input with this name
+abbrev pub IsJudgedAs : Form → Bool → Option (List ℕ) → List ℕ → List ℕ → Bool → Type 0
+IsJudgedAs form strict name input text negative =
+    IsJudgedFrom (origin_in form name nothing_asked input) strict input text negative

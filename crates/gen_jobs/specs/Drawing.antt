@@ -3,7 +3,7 @@ use Rattle.std.specs.Prelude.{◌≡◌, ℕ, Bool, true, false, List, [], ◌�
 use Rattle.gen_types.specs.Spelled.{Spells}
 use Rattle.gen_audit.specs.Bundle.{Bundle}
 use Rattle.gen_audit.specs.declared.verdicts.Judgement.{Judgement}
-use Rattle.gen_convict.specs.AcrossLaws.{AreConvictedAcross}
+use Rattle.gen_convict.specs.AcrossLaws.{AreConvictedAcross, ConvictsAcrossWhereHeld}
 use Rattle.gen_convict.specs.Evidence.{Accusation, told_of}
 use Rattle.gen_campaign.specs.Campaign.{CampaignBundle, IsCampaign}
 use Rattle.gen_campaign.specs.CampaignSpelling.{campaign_spelling}
@@ -34,6 +34,7 @@ pub record DrawsRuns (bundles : List Bundle) (text : List ℕ) : Type 0 where
   pub judged : AreJudged bundles judgements
   pub across : List Accusation
   pub convicted : AreConvictedAcross (shown_bundles bundles) across
+  pub held : ConvictsAcrossWhereHeld (shown_bundles bundles) across
   pub text_is : text ≡ several_picture bundles judgements across
 
 -- the text is the picture of one bundle that stands alone, or of the bundles of a campaign

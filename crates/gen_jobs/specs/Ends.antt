@@ -13,6 +13,7 @@ fault_status (faults.Campaign f) = 3
 fault_status (faults.Evidence f) = 3
 fault_status (faults.Log f) = 3
 fault_status (faults.Seed f) = 3
+fault_status (faults.EqualRoots a b) = 3
 fault_status faults.OtherRun = 3
 fault_status faults.Memory = 4
 fault_status faults.Thread = 4

@@ -8,6 +8,8 @@ use Rattle.gen_prepare.specs.declared.answers.AnswerFault.{AnswerFault}
 use Rattle.gen_prepare.specs.declared.answers.AnswerFault.TheVariants as answers
 use Rattle.gen_audit.specs.declared.bundle_fault.BundleFault.{BundleFault}
 use Rattle.gen_campaign.specs.declared.campaign_fault.CampaignFault.TheVariants.{Alone}
+use Rattle.gen_prepare.specs.declared.header_fault.HeaderTextFault.{HeaderTextFault}
+use Rattle.gen_prepare.specs.declared.header_fault.HeaderTextFault.TheVariants as headers
 use Rattle.gen_prepare.specs.declared.seed_fault.SeedFault.{SeedFault}
 use Rattle.gen_audit.specs.declared.faults.AuditFault.{AuditFault}
 use Rattle.gen_audit.specs.declared.faults.AuditFault.TheVariants as audits
@@ -35,6 +37,16 @@ evidence_failure (errors.Fault f) = faults.Evidence f
 abbrev pub seed_failure : ReadError SeedFault → JobFault
 seed_failure errors.Memory = faults.Memory
 seed_failure (errors.Fault f) = faults.Seed f
+
+-- the job's fault for this fault of the text of a header
+abbrev pub header_text_failure : HeaderTextFault → JobFault
+header_text_failure (headers.Text f) = faults.Scenario f
+header_text_failure (headers.EqualRoots a b) = faults.EqualRoots a b
+
+-- the job's fault for a text that gives no header
+abbrev pub header_failure : ReadError HeaderTextFault → JobFault
+header_failure errors.Memory = faults.Memory
+header_failure (errors.Fault f) = header_text_failure f
 
 -- the job's fault for a bundle that can't be made
 abbrev pub bundle_failure : ReadError BundleFault → JobFault

@@ -43,6 +43,10 @@ line_fault_name lines.Unlike = codes "P15"
 unfoldable pub text_fault_line : ScenarioFault → List ℕ
 text_fault_line fault = codes "fault " ++ line_fault_name fault.kind ++ codes " line " ++ decimal fault.line
 
+-- the line of the fault that two generals have the same root
+unfoldable pub equal_roots_fault_line : ℕ → ℕ → List ℕ
+equal_roots_fault_line a b = codes "fault G2 generals " ++ decimal a ++ codes " " ++ decimal b
+
 -- the line of a fault, without a line feed
 abbrev pub job_fault_line : JobFault → List ℕ
 job_fault_line (faults.Scenario fault) = text_fault_line fault
@@ -50,6 +54,7 @@ job_fault_line (faults.Campaign fault) = codes "fault " ++ campaign_fault_name f
 job_fault_line (faults.Evidence fault) = codes "fault " ++ evidence_fault_name fault
 job_fault_line (faults.Log fault) = codes "fault " ++ log_fault_name fault
 job_fault_line (faults.Seed fault) = codes "fault G1"
+job_fault_line (faults.EqualRoots a b) = equal_roots_fault_line a b
 job_fault_line faults.OtherRun = codes "fault R1"
 job_fault_line faults.Memory = codes "memory"
 job_fault_line faults.Thread = codes "thread"

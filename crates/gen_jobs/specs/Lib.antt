@@ -14,10 +14,14 @@ pub mod Failing
 pub mod FaultLines
 pub mod Faulty
 pub mod Holding
+pub mod InputKinds
 pub mod Jobs
 pub mod Joining
 pub mod Judging
 pub mod Naming
+pub mod Origins
+pub mod PlanText
+pub mod Planning
 pub mod Preparing
 pub mod Ranges
 pub mod Run

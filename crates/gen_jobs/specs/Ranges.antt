@@ -13,4 +13,5 @@ IsInRange (jobs.Audit w asked strict form) = (1 ≤ w) × (w ≤ 16)
 IsInRange (jobs.Draw w asked) = (1 ≤ w) × (w ≤ 16)
 IsInRange (jobs.Accuse g asked) = g < 16
 IsInRange (jobs.Header version) = slot_in version ≤ greatest_slot
+IsInRange (jobs.Plan version) = slot_in version ≤ greatest_slot
 IsInRange _ = Unit {0}

@@ -16,7 +16,6 @@ use Rattle.gen_show.specs.declared.kinds.FileKind.TheVariants.{OfHeader, OfEvide
 use Rattle.gen_jobs.specs.AskedRuns.{AreAsked, run_ids}
 use Rattle.gen_jobs.specs.Telling.{TellsFile}
 use Rattle.gen_jobs.specs.declared.forms.Form.{Form}
-use Rattle.gen_jobs.specs.declared.forms.Form.TheVariants.{Text}
 use Rattle.gen_jobs.specs.declared.asked_runs.AskedRuns.{AskedRuns}
 use Rattle.gen_jobs.specs.declared.asked_runs.AskedRuns.TheVariants.{Any}
 use Rattle.gen_jobs.specs.declared.ends.JobFault.{JobFault}
@@ -60,9 +59,6 @@ IsFileOf asked input = AreAskedOf asked (runs_as (file_kind input) input)
 -- the text says in a form, line by line, what the file is, which is of the runs that are asked for
 abbrev pub IsShownIn : Form → AskedRuns → List ℕ → List ℕ → Bool → Type 0
 IsShownIn form asked input text negative = IsFileOf asked input × TellsFile form input text negative
-
-abbrev pub IsShownOf : AskedRuns → List ℕ → List ℕ → Bool → Type 0
-IsShownOf = IsShownIn Text
 
 -- the file is not of the runs that are asked for; or memory was refused
 abbrev pub IsShownFault : AskedRuns → List ℕ → JobFault → Type 0

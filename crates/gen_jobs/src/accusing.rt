@@ -1,12 +1,12 @@
 //! The job `accuse`: writes the evidence against a general.
 ghost use Rattle.std.specs.Prelude.{◌≡◌, ◌==◌, IfOk, IfErr, IfSome, find, map, option_map};
 ghost use Rattle.gen_convict.specs.Evidence.{told_of};
-ghost use Rattle.gen_convict.specs.AcrossLaws.{AreConvictedAcross, AreEvidenceAcross};
+ghost use Rattle.gen_convict.specs.AcrossLaws.{AreConvictedAcross, AreEvidenceAcross, ConvictsAcrossWhereHeld};
 ghost use Rattle.gen_campaign.specs.Judged.{AreJudged, shown_bundles};
-ghost use Rattle.gen_jobs.specs.Accusing.{AccusesRuns, AccusesWithin, AreOfRuns, IsAccused, TellsAcross};
+ghost use Rattle.gen_jobs.specs.Accusing.{AccusesRuns, AccusesWithin, AreOfRuns, TellsAcross};
 ghost use Rattle.gen_jobs.specs.Answering.{Answers};
 ghost use Rattle.gen_jobs.specs.Asking.{IsAccusedOf, IsShowFault};
-ghost use Rattle.gen_jobs.specs.Audit.{IsAuditFault};
+ghost use Rattle.gen_jobs.specs.Audit.{ByWorkers};
 ghost use Rattle.gen_jobs.specs.Ends.{IsTaken, KeepsUntilWhole};
 
 use crate::asked_runs::{AskedRuns, check_runs};
@@ -14,9 +14,7 @@ use crate::ends::{JobEnd, JobFault, Output};
 use crate::gates::Open;
 use crate::transfer::{deliver, read_all};
 use gen_audit::{Bundle, Judgement, WorkerCount};
-use gen_campaign::{
-    CampaignBundle, CampaignVerdict, audit_campaign, read_campaign, read_taken_campaign,
-};
+use gen_campaign::{CampaignBundle, CampaignVerdict, audit_campaign, read_taken_campaign};
 use gen_convict::{Claim, Evidence, write_evidence};
 use gen_types::GeneralNo;
 use std::alloc::{AllocError, Global};
@@ -97,6 +95,8 @@ pub(crate) fn evidence_by(
     requires judged { AreJudged campaign.now.bundles verdict.now.judgements.items }
     requires across { AreConvictedAcross (shown_bundles campaign.now.bundles)
         (map told_of verdict.now.across.items) }
+    requires held { ConvictsAcrossWhereHeld (shown_bundles campaign.now.bundles)
+        (map told_of verdict.now.across.items) }
     requires lawful { AreEvidenceAcross (map told_of verdict.now.across.items) }
     ensures { IfOk result (λ o. AccusesRuns campaign.now.bundles general o.text.items o.negative) }
 {
@@ -108,59 +108,16 @@ pub(crate) fn evidence_by(
     accusation_across(alloc, verdict.across.as_slice(), general)
 }
 
-/// Returns the bytes of the evidence against a general that the bundle or campaign in the input holds. For a bundle it
-/// is of the first claim that its exhibits hold against the general. For a campaign it is that of the first run that
-/// holds any, else of the first claim across two runs. If there is no claim, or the number is no general of the
-/// network, there are no bytes, and the output says no. The answer does not depend on the number of workers.
-///
-/// # Errors
-///
-/// `Campaign` with the first fault of an input that spells neither; `Memory` if memory is refused; `Thread` if a
-/// worker's thread can't be started.
-#[tactic(auto, using(crate::proofs::Audited::audit_fault))]
-pub fn accuse<T: Threads + Wait + Sync>(
-    rt: &T,
-    alloc: Global,
-    workers: WorkerCount,
-    general: GeneralNo,
-    input: &[u8],
-) -> Result<Output, JobFault>
-    ensures answer { IfOk result (λ o. IsAccused general input.now o.text.items o.negative) }
-    ensures fault { IfErr result (IsAuditFault input.now) }
-{
-    let campaign = read_campaign(alloc, input)?;
-    let verdict = audit_campaign(rt, alloc, &campaign, workers, &Open)?;
-    Ok(evidence_by(alloc, general, &campaign, &verdict)?)
-}
-
-/// Returns what `accuse` returns for the input, but takes the input, whose bytes are not copied.
-///
-/// # Errors
-///
-/// Those of `accuse`.
-#[tactic(auto, using(crate::proofs::Audited::audit_fault))]
-pub fn accuse_taken<T: Threads + Wait + Sync>(
-    rt: &T,
-    alloc: Global,
-    workers: WorkerCount,
-    general: GeneralNo,
-    input: Vec<u8>,
-) -> Result<Output, JobFault>
-    ensures answer { IfOk result (λ o. IsAccused general input.items o.text.items o.negative) }
-    ensures fault { IfErr result (IsAuditFault input.items) }
-{
-    let campaign = read_taken_campaign(alloc, input)?;
-    let verdict = audit_campaign(rt, alloc, &campaign, workers, &Open)?;
-    Ok(evidence_by(alloc, general, &campaign, &verdict)?)
-}
-
-/// Returns what `accuse` returns for the input, whose runs must be the ones that are asked for. The input is taken, and
-/// its bytes are not copied.
+/// Returns the bytes of the evidence against a general that the bundle or campaign in the input holds, whose runs must be
+/// the ones that are asked for. For a bundle it is of the first claim that its exhibits hold against the general. For a
+/// campaign it is that of the first run that holds any, else of the first claim across two runs. If there is no claim,
+/// or the number is no general of the network, there are no bytes, and the output says no. The answer does not depend on
+/// the number of workers. The input is taken, and its bytes are not copied.
 ///
 /// # Errors
 ///
 /// `Campaign` with the first fault of an input that spells neither; else `OtherRun` if the runs are others. `Memory` if
-/// memory is refused; `Thread` if a worker's thread can't be started.
+/// memory is refused; `Thread` if a worker's thread can't be started, so never for one worker.
 #[tactic(auto, using(crate::proofs::AskedFaults::show_faults))]
 pub fn accuse_as_asked<T: Threads + Wait + Sync>(
     rt: &T,
@@ -171,7 +128,7 @@ pub fn accuse_as_asked<T: Threads + Wait + Sync>(
     input: Vec<u8>,
 ) -> Result<Output, JobFault>
     ensures answer { IfOk result (λ o. IsAccusedOf asked general input.items o.text.items o.negative) }
-    ensures fault { IfErr result (IsShowFault asked input.items) }
+    ensures fault { IfErr result (ByWorkers workers (IsShowFault asked input.items)) }
 {
     let campaign = read_taken_campaign(alloc, input)?;
     check_runs(alloc, asked, campaign.bundles())?;
@@ -197,7 +154,7 @@ pub fn accuse_engine<T: Threads + Wait + Sync, R: Read, W: Write>(
 ) -> JobEnd
     // What is written is the evidence that what was read holds against the general.
     ensures answers { IfSome (R.remaining reader.old) (λ input.
-        Answers (IsAccusedOf asked general input) (IsShowFault asked input)
+        Answers (IsAccusedOf asked general input) (ByWorkers workers (IsShowFault asked input))
         (W.contents writer.old) (W.contents writer.new) result) }
     // What was read is within the limit.
     ensures taken { IfSome (R.remaining reader.old) (λ input. IsTaken input result) }

@@ -1,11 +1,16 @@
 //! What counts as a no.
-ghost use Rattle.std.specs.Prelude.{◌≡◌};
-ghost use Rattle.gen_jobs.specs.Asking.{counts_as_no, has_few, have_few};
+ghost use Rattle.std.specs.Prelude.{◌≡◌, ◌++◌, IfOk};
+ghost use Rattle.gen_show.specs.HeaderText.{equal_roots_lines};
+ghost use Rattle.gen_jobs.specs.Asking.{counted_text, counts_as_no, has_few, have_few, shared_roots};
 
 use crate::ends::Output;
 use gen_audit::Bundle;
+use gen_json::Origin;
 use gen_net::Net;
-use gen_types::GeneralSet;
+use gen_plan::equal_roots;
+use gen_show::push_equal_roots;
+use gen_types::{GeneralNo, GeneralSet};
+use std::alloc::{AllocError, Global};
 
 /// Returns whether at most m generals of a network are held for faulty.
 pub(crate) fn has_few(net: &Net, faulty: &GeneralSet) -> bool
@@ -23,14 +28,54 @@ pub(crate) fn have_few(bundles: &[Bundle]) -> bool
         .all(|bundle| has_few(bundle.header().net(), bundle.faulty()))
 }
 
-/// Returns the output, which says no if and only if it counts as a no.
-pub(crate) fn counted(output: Output, strict: bool, few: bool) -> Output
-    ensures text { result.text ≡ output.text }
-    ensures negative { result.negative ≡ counts_as_no strict output.negative few }
+/// Returns the pairs of generals that have the same root in the first of these bundles. There are none without a bundle.
+pub(crate) fn shared_roots(
+    alloc: Global,
+    bundles: &[Bundle],
+) -> Result<Vec<(GeneralNo, GeneralNo)>, AllocError>
+    ensures { IfOk result (λ pairs. pairs.items ≡ shared_roots bundles.now) }
 {
-    let negative = output.negative || (strict && !few);
-    Output {
-        text: output.text,
-        negative,
+    match bundles.first() {
+        Some(bundle) => equal_roots(alloc, bundle.header()),
+        None => Ok(Vec::new(alloc)),
     }
+}
+
+/// Returns the text with a line behind it for each of these pairs of generals that have the same root.
+fn with_shared(
+    alloc: Global,
+    mut text: Vec<u8>,
+    shared: &[(GeneralNo, GeneralNo)],
+) -> Result<Vec<u8>, AllocError>
+    ensures { IfOk result (λ v. v.items ≡ text.items ++ equal_roots_lines shared.now) }
+{
+    let mut lines = String::new(alloc);
+    push_equal_roots(&mut lines, shared)?;
+    text.extend_from_slice(lines.as_bytes())?;
+    Ok(text)
+}
+
+/// Returns an output as it counts. If it is asked strictly, it says no too if not few generals are held for faulty or if
+/// these generals have the same root. An output that is no JSON, so without where it comes from, then ends with a line
+/// for each pair of them.
+pub(crate) fn counted(
+    alloc: Global,
+    output: Output,
+    origin: &Option<Origin>,
+    strict: bool,
+    few: bool,
+    shared: &[(GeneralNo, GeneralNo)],
+) -> Result<Output, AllocError>
+    ensures text { IfOk result (λ o. o.text.items ≡ counted_text origin.now strict output.text.items shared.now) }
+    ensures negative { IfOk result (λ o. o.negative ≡ counts_as_no strict output.negative few shared.now) }
+{
+    if !strict {
+        return Ok(output);
+    }
+    let negative = output.negative || !few || !shared.is_empty();
+    let text = match origin {
+        None => with_shared(alloc, output.text, shared)?,
+        Some(_) => output.text,
+    };
+    Ok(Output { text, negative })
 }

@@ -1,13 +1,13 @@
 //! The job `draw`: writes the picture of a bundle or a campaign.
 ghost use Rattle.std.specs.Prelude.{◌≡◌, ◌≤◌, false, IfOk, IfErr, IfSome, if◌then◌else◌, length, map};
-ghost use Rattle.gen_convict.specs.AcrossLaws.{AreConvictedAcross};
+ghost use Rattle.gen_convict.specs.AcrossLaws.{AreConvictedAcross, ConvictsAcrossWhereHeld};
 ghost use Rattle.gen_convict.specs.Evidence.{told_of};
 ghost use Rattle.gen_campaign.specs.Judged.{AreJudged, shown_bundles};
 ghost use Rattle.gen_draw.specs.Several.{several_picture};
 ghost use Rattle.gen_jobs.specs.Answering.{Answers};
 ghost use Rattle.gen_jobs.specs.Asking.{IsDrawnBy, IsHeldFault};
-ghost use Rattle.gen_jobs.specs.Audit.{IsAuditFault};
-ghost use Rattle.gen_jobs.specs.Drawing.{DrawsForm, IsDrawn, first_picture};
+ghost use Rattle.gen_jobs.specs.Audit.{ByWorkers};
+ghost use Rattle.gen_jobs.specs.Drawing.{DrawsForm, first_picture};
 ghost use Rattle.gen_jobs.specs.Ends.{IsTaken, KeepsUntilWhole};
 
 use crate::asked::Asked;
@@ -17,9 +17,7 @@ use crate::gates::Open;
 use crate::holding::held_as;
 use crate::transfer::{deliver, read_all};
 use gen_audit::WorkerCount;
-use gen_campaign::{
-    CampaignBundle, CampaignVerdict, audit_campaign, read_campaign, read_taken_campaign,
-};
+use gen_campaign::{CampaignBundle, CampaignVerdict, audit_campaign, read_taken_campaign};
 use gen_draw::{draw as draw_bundle, draw_campaign};
 use std::alloc::{AllocError, Global};
 use std::io::{Read, Write};
@@ -61,6 +59,8 @@ pub(crate) fn picture_by(
     requires judged { AreJudged campaign.now.bundles verdict.now.judgements.items }
     requires across { AreConvictedAcross (shown_bundles campaign.now.bundles)
         (map told_of verdict.now.across.items) }
+    requires held { ConvictsAcrossWhereHeld (shown_bundles campaign.now.bundles)
+        (map told_of verdict.now.across.items) }
     ensures answer { IfOk result (λ o. DrawsForm campaign.now.alone campaign.now.bundles o.text.items) }
     ensures positive { IfOk result (λ o. o.negative ≡ false) }
 {
@@ -73,52 +73,11 @@ pub(crate) fn picture_by(
     })
 }
 
-/// Returns the picture of the bundle that the input spells and of the judgement on it, as an SVG text. For a campaign
-/// it is that of its runs, one below the other. The output never says no, whatever the verdict is, and it does not
-/// depend on the number of workers.
-///
-/// # Errors
-///
-/// `Campaign` with the first fault of an input that spells neither; `Memory` if memory is refused; `Thread` if a
-/// worker's thread can't be started.
-#[tactic(auto, using(crate::proofs::Audited::audit_fault))]
-pub fn draw<T: Threads + Wait + Sync>(
-    rt: &T,
-    alloc: Global,
-    workers: WorkerCount,
-    input: &[u8],
-) -> Result<Output, JobFault>
-    ensures answer { IfOk result (λ o. IsDrawn input.now o.text.items o.negative) }
-    ensures fault { IfErr result (IsAuditFault input.now) }
-{
-    let campaign = read_campaign(alloc, input)?;
-    let verdict = audit_campaign(rt, alloc, &campaign, workers, &Open)?;
-    Ok(picture_by(alloc, &campaign, &verdict)?)
-}
-
-/// Returns what `draw` returns for the input, but takes the input, whose bytes are not copied.
-///
-/// # Errors
-///
-/// Those of `draw`.
-#[tactic(auto, using(crate::proofs::Audited::audit_fault))]
-pub fn draw_taken<T: Threads + Wait + Sync>(
-    rt: &T,
-    alloc: Global,
-    workers: WorkerCount,
-    input: Vec<u8>,
-) -> Result<Output, JobFault>
-    ensures answer { IfOk result (λ o. IsDrawn input.items o.text.items o.negative) }
-    ensures fault { IfErr result (IsAuditFault input.items) }
-{
-    let campaign = read_taken_campaign(alloc, input)?;
-    let verdict = audit_campaign(rt, alloc, &campaign, workers, &Open)?;
-    Ok(picture_by(alloc, &campaign, &verdict)?)
-}
-
-/// Returns what `draw` returns for the input, whose runs must be the ones that are asked for. If generals are asked for,
-/// these are held for faulty in place of the ones that it lists, as for `audit_as_asked`. The input is taken, and its
-/// bytes are not copied unless generals are asked for.
+/// Returns the picture of the bundle that the input spells and of the judgement on it, as an SVG text. For a campaign it
+/// is that of its runs, one below the other. The runs must be the ones that are asked for. If generals are asked for,
+/// these are held for faulty in place of the ones that it lists, as for `audit_as_asked`. The output never says no,
+/// whatever the verdict is, and it does not depend on the number of workers. The input is taken, and its bytes are not
+/// copied unless generals are asked for.
 ///
 /// # Errors
 ///
@@ -132,7 +91,7 @@ pub fn draw_as_asked<T: Threads + Wait + Sync>(
     input: Vec<u8>,
 ) -> Result<Output, JobFault>
     ensures answer { IfOk result (λ o. IsDrawnBy asked.now input.items o.text.items o.negative) }
-    ensures fault { IfErr result (IsHeldFault asked.now input.items) }
+    ensures fault { IfErr result (ByWorkers workers (IsHeldFault asked.now input.items)) }
 {
     let campaign = read_taken_campaign(alloc, input)?;
     check_runs(alloc, asked.runs, campaign.bundles())?;
@@ -158,7 +117,7 @@ pub fn draw_engine<T: Threads + Wait + Sync, R: Read, W: Write>(
 ) -> JobEnd
     // What is written is the picture of what was read.
     ensures answers { IfSome (R.remaining reader.old) (λ input.
-        Answers (IsDrawnBy asked.now input) (IsHeldFault asked.now input)
+        Answers (IsDrawnBy asked.now input) (ByWorkers workers (IsHeldFault asked.now input))
         (W.contents writer.old) (W.contents writer.new) result) }
     // What was read is within the limit.
     ensures taken { IfSome (R.remaining reader.old) (λ input. IsTaken input result) }

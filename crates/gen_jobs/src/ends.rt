@@ -1,13 +1,14 @@
 //! How a job ends.
 ghost use Rattle.std.specs.Prelude.{◌≡◌};
-ghost use Rattle.gen_jobs.specs.Ends.{status_of, fault_in};
+ghost use Rattle.gen_jobs.specs.Ends.{fault_in, fault_status, status_of};
+ghost use Rattle.gen_jobs.specs.Failing.{header_text_failure};
 ghost use Rattle.gen_jobs.specs.declared.ends.JobFault.TheVariants.{Memory};
 
 use gen_audit::{AuditFault, BundleFault};
 use gen_campaign::CampaignFault;
 use gen_convict::EvidenceFault;
 use gen_log::LogFault;
-use gen_prepare::{AnswerFault, SeedFault};
+use gen_prepare::{AnswerFault, HeaderTextFault, SeedFault};
 use gen_report::ScenarioFault;
 use gen_threads::RunFault;
 use gen_types::ReadError;
@@ -32,6 +33,14 @@ pub enum JobFault {
     /// The input is no seed.
     #[error("fault {0}")]
     Seed(SeedFault),
+    /// The input is the text of a header whose generals a and b, a before b, have the same root. No lesser pair has.
+    #[error("fault G2 generals {a} {b}")]
+    EqualRoots {
+        /// The number of the first general, 0 to 15.
+        a: u8,
+        /// The number of the second general, 0 to 15.
+        b: u8,
+    },
     /// The input is of another run than the one that is asked for.
     #[error("fault R1")]
     OtherRun,
@@ -50,6 +59,26 @@ pub enum JobFault {
     /// The output could not be written.
     #[error("write failed")]
     Write,
+}
+
+impl JobFault {
+    /// Returns the program's exit status for this fault: 3 for one of the input, 4 for memory or a thread, and 5 for an
+    /// open, a read or a write.
+    pub fn status(&self) -> u8
+        ensures { result ≡ fault_status self.now }
+    {
+        match self {
+            JobFault::Scenario(_)
+            | JobFault::Campaign(_)
+            | JobFault::Evidence(_)
+            | JobFault::Log(_)
+            | JobFault::Seed(_)
+            | JobFault::EqualRoots { .. }
+            | JobFault::OtherRun => 3,
+            JobFault::Memory | JobFault::Thread => 4,
+            JobFault::Open | JobFault::Read | JobFault::Write => 5,
+        }
+    }
 }
 
 impl From<AllocError> for JobFault {
@@ -138,6 +167,32 @@ impl From<ReadError<SeedFault>> for JobFault {
     }
 }
 
+/// Returns the fault of a job whose input is the text of a header with this fault.
+fn of_header_text(fault: HeaderTextFault) -> JobFault
+    ensures { result ≡ header_text_failure fault }
+{
+    match fault {
+        HeaderTextFault::Text(inner) => JobFault::Scenario(inner),
+        HeaderTextFault::EqualRoots { a, b } => JobFault::EqualRoots {
+            a: a.get(),
+            b: b.get(),
+        },
+    }
+}
+
+impl From<ReadError<HeaderTextFault>> for JobFault {
+    ghost use Rattle.gen_jobs.specs.Failing.{header_failure};
+
+    ghost from_gives = { λ e fault. fault ≡ header_failure e };
+
+    fn from(e: ReadError<HeaderTextFault>) -> JobFault {
+        match e {
+            ReadError::Memory => JobFault::Memory,
+            ReadError::Fault(fault) => of_header_text(fault),
+        }
+    }
+}
+
 impl From<ReadError<BundleFault>> for JobFault {
     ghost use Rattle.gen_jobs.specs.Failing.{bundle_failure};
 
@@ -194,16 +249,7 @@ impl JobEnd {
         match self {
             JobEnd::Done => 0,
             JobEnd::Negative => 1,
-            JobEnd::Failed(
-                JobFault::Scenario(_)
-                | JobFault::Campaign(_)
-                | JobFault::Evidence(_)
-                | JobFault::Log(_)
-                | JobFault::Seed(_)
-                | JobFault::OtherRun,
-            ) => 3,
-            JobEnd::Failed(JobFault::Memory | JobFault::Thread) => 4,
-            JobEnd::Failed(JobFault::Open | JobFault::Read | JobFault::Write) => 5,
+            JobEnd::Failed(fault) => fault.status(),
         }
     }
 

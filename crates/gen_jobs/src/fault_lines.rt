@@ -1,6 +1,6 @@
 //! The line of the fault of a job.
 ghost use Rattle.std.specs.Prelude.{◌≡◌, ◌++◌, IfOk, OnOk, string_bytes};
-ghost use Rattle.gen_jobs.specs.FaultLines.{job_fault_line, line_fault_name};
+ghost use Rattle.gen_jobs.specs.FaultLines.{equal_roots_fault_line, job_fault_line, line_fault_name};
 
 use crate::ends::JobFault;
 use gen_report::LineFault;
@@ -41,6 +41,15 @@ fn push_line_fault(out: &mut String, fault: LineFault) -> Result<(), AllocError>
     }
 }
 
+/// Appends the line of the fault that two generals have the same root.
+#[tactic(auto, unfolding(crate::specs::FaultLines::equal_roots_fault_line))]
+fn push_equal_roots(out: &mut String, a: u8, b: u8) -> Result<(), AllocError>
+    ensures { OnOk result
+        (string_bytes out.new ≡ string_bytes out.old ++ equal_roots_fault_line a b) }
+{
+    write!(out, "fault G2 generals {a} {b}")
+}
+
 /// Appends the line of a fault.
 #[tactic(auto, unfolding(crate::specs::FaultLines::text_fault_line))]
 fn push_job_fault(out: &mut String, fault: JobFault) -> Result<(), AllocError>
@@ -67,6 +76,7 @@ fn push_job_fault(out: &mut String, fault: JobFault) -> Result<(), AllocError>
             push_log_fault(out, inner)
         }
         JobFault::Seed(_) => out.push_str("fault G1"),
+        JobFault::EqualRoots { a, b } => push_equal_roots(out, a, b),
         JobFault::OtherRun => out.push_str("fault R1"),
         JobFault::Memory => out.push_str("memory"),
         JobFault::Thread => out.push_str("thread"),

@@ -9,35 +9,41 @@ ghost use Rattle.gen_jobs.specs.Audit.{IsAudited, IsAuditFault};
 ghost use Rattle.gen_jobs.specs.Drawing.{IsDrawn};
 
 use crate::accusing::evidence_by;
+use crate::asked::Asked;
 use crate::asked_runs::{AskedRuns, check_runs};
 use crate::auditing::output_by;
-use crate::counting::{counted, have_few};
+use crate::counting::{counted, have_few, shared_roots};
 use crate::drawing::picture_by;
 use crate::ends::{JobFault, Output};
+use crate::faulty::Faulty;
 use crate::forms::Form;
+use crate::origins::origin_in;
 use gen_campaign::{audit_campaign_in_place, read_campaign};
 use gen_types::GeneralNo;
 use std::alloc::Global;
 
-/// Returns what `audit` returns for the input, but works in the caller's thread.
+/// Returns the text of the judgement on the bundle or the campaign that the input spells, and whether its verdict is a
+/// no. For a bundle it is a no if and only if the bundle doesn't support a yes. For a campaign it is a no if and only if
+/// some run's bundle doesn't support a yes.
 ///
 /// # Errors
 ///
-/// Those of `audit`, without `Thread`.
+/// `Campaign` with the first fault of an input that spells neither; `Memory` if memory is refused.
 pub fn audit_in_place(alloc: Global, input: &[u8]) -> Result<Output, JobFault>
     ensures answer { IfOk result (λ o. IsAudited input.now o.text.items o.negative) }
     ensures fault { IfErr result (IsAuditFault input.now) }
 {
     let campaign = read_campaign(alloc, input)?;
     let verdict = audit_campaign_in_place(alloc, &campaign)?;
-    Ok(output_by(alloc, Form::Text, &campaign, &verdict)?)
+    Ok(output_by(alloc, &None, &campaign, &verdict)?)
 }
 
-/// Returns what `draw` returns for the input, but works in the caller's thread.
+/// Returns the picture of the bundle or the campaign that the input spells and of the judgement on it, as an SVG text. The
+/// output never says no, whatever the verdict is.
 ///
 /// # Errors
 ///
-/// Those of `draw`, without `Thread`.
+/// Those of `audit_in_place`.
 pub fn draw_in_place(alloc: Global, input: &[u8]) -> Result<Output, JobFault>
     ensures answer { IfOk result (λ o. IsDrawn input.now o.text.items o.negative) }
     ensures fault { IfErr result (IsAuditFault input.now) }
@@ -47,11 +53,12 @@ pub fn draw_in_place(alloc: Global, input: &[u8]) -> Result<Output, JobFault>
     Ok(picture_by(alloc, &campaign, &verdict)?)
 }
 
-/// Returns what `accuse` returns for the input, but works in the caller's thread.
+/// Returns the bytes of the evidence against a general that the bundle or campaign in the input holds, as
+/// `accuse_as_asked` does of any runs.
 ///
 /// # Errors
 ///
-/// Those of `accuse`, without `Thread`.
+/// Those of `audit_in_place`.
 pub fn accuse_in_place(alloc: Global, general: GeneralNo, input: &[u8]) -> Result<Output, JobFault>
     ensures answer { IfOk result (λ o. IsAccused general input.now o.text.items o.negative) }
     ensures fault { IfErr result (IsAuditFault input.now) }
@@ -61,8 +68,8 @@ pub fn accuse_in_place(alloc: Global, general: GeneralNo, input: &[u8]) -> Resul
     Ok(evidence_by(alloc, general, &campaign, &verdict)?)
 }
 
-/// Returns what `audit_as_asked` returns for the input in this form if no set is asked for, but works in the caller's
-/// thread.
+/// Returns what `audit_as_asked` returns for the input in this form if it has no name and no set is asked for, but works
+/// in the caller's thread.
 ///
 /// # Errors
 ///
@@ -78,11 +85,18 @@ pub fn audit_form_in_place(
     ensures answer { IfOk result (λ o. IsAuditedIn form asked strict input.now o.text.items o.negative) }
     ensures fault { IfErr result (IsShowFault asked input.now) }
 {
+    let all = Asked {
+        runs: asked,
+        faulty: Faulty::Listed,
+    };
+    let origin = origin_in(alloc, form, None, &all, input)?;
     let campaign = read_campaign(alloc, input)?;
     check_runs(alloc, asked, campaign.bundles())?;
     let verdict = audit_campaign_in_place(alloc, &campaign)?;
-    let output = output_by(alloc, form, &campaign, &verdict)?;
-    Ok(counted(output, strict, have_few(campaign.bundles())))
+    let output = output_by(alloc, &origin, &campaign, &verdict)?;
+    let few = have_few(campaign.bundles());
+    let shared = shared_roots(alloc, campaign.bundles())?;
+    Ok(counted(alloc, output, &origin, strict, few, &shared)?)
 }
 
 /// Returns what `audit_as_asked` returns for the input as text, but works in the caller's thread.

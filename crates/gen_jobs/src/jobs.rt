@@ -1,5 +1,5 @@
 //! The jobs, and the choice of their engines.
-ghost use Rattle.std.specs.Prelude.{IfSome};
+ghost use Rattle.std.specs.Prelude.{IfSome, option_map};
 ghost use Rattle.gen_jobs.specs.Answering.{Answers};
 ghost use Rattle.gen_jobs.specs.Ends.{IsTaken, KeepsUntilWhole};
 ghost use Rattle.gen_jobs.specs.Jobs.{JobAnswers, JobFails};
@@ -16,6 +16,7 @@ use crate::drawing::draw_engine;
 use crate::ends::JobEnd;
 use crate::forms::Form;
 use crate::judging::judge_engine;
+use crate::planning::plan_engine;
 use crate::preparing::{header_engine, root_engine};
 use crate::running::run_engine;
 use crate::showing::show_engine;
@@ -47,7 +48,7 @@ pub enum Job {
         capacity: u8,
         /// How many workers read and verify logs.
         workers: WorkerCount,
-        /// Whether `explained` counts as a no.
+        /// Whether `explained` and equal roots count as a no.
         strict: bool,
         /// The form of the answer.
         form: Form,
@@ -64,7 +65,7 @@ pub enum Job {
         workers: WorkerCount,
         /// The runs that it must be of, and who is held for faulty.
         asked: Asked,
-        /// Whether `explained` counts as a no.
+        /// Whether `explained` and equal roots count as a no.
         strict: bool,
         /// The form of the answer.
         form: Form,
@@ -107,6 +108,11 @@ pub enum Job {
         /// The version of the header, in version 2 with the slot, 0 to 3.
         version: Version,
     },
+    /// Reads a header text, a header, a bundle or a campaign, and writes whether the plan of its header holds.
+    Plan {
+        /// The version of the header of a text, in version 2 with the slot, 0 to 3.
+        version: Version,
+    },
     /// Reads an input, and writes what is told of it.
     Tell {
         /// What is told of it.
@@ -114,7 +120,8 @@ pub enum Job {
     },
 }
 
-/// Does a job by its engine: reads its input to its end and writes the answer; nothing if the input has a fault.
+/// Does a job by its engine: reads its input to its end and writes the answer; nothing if the input has a fault. A verdict
+/// as JSON tells the input's name, if it has one.
 ///
 /// A fault of the input is looked for after the whole input was read, and nothing is written before the output is
 /// whole. If a read, a write, memory or a thread fails, the job ends with that fault.
@@ -122,13 +129,14 @@ pub fn do_job<T: Threads + Wait + Sync, R: Read, W: Write>(
     rt: &T,
     alloc: Global,
     job: Job,
+    name: Option<&str>,
     reader: &mut R,
     writer: &mut W,
 ) -> JobEnd
     requires { IsInRange job }
     // What is written is what this job makes of what was read.
     ensures answers { IfSome (R.remaining reader.old) (λ input.
-        Answers (JobAnswers job input) (JobFails job input)
+        Answers (JobAnswers job (option_map (λ t. t.now) name.entry) input) (JobFails job input)
         (W.contents writer.old) (W.contents writer.new) result) }
     // What was read is within the limit.
     ensures taken { IfSome (R.remaining reader.old) (λ input. IsTaken input result) }
@@ -143,14 +151,18 @@ pub fn do_job<T: Threads + Wait + Sync, R: Read, W: Write>(
             workers,
             strict,
             form,
-        } => judge_engine(rt, alloc, capacity, workers, form, strict, reader, writer),
+        } => judge_engine(
+            rt, alloc, capacity, workers, form, strict, name, reader, writer,
+        ),
         Job::Campaign { capacity } => campaign_engine(rt, alloc, capacity, reader, writer),
         Job::Audit {
             workers,
             asked,
             strict,
             form,
-        } => audit_engine(rt, alloc, workers, &asked, form, strict, reader, writer),
+        } => audit_engine(
+            rt, alloc, workers, &asked, form, strict, name, reader, writer,
+        ),
         Job::Draw { workers, asked } => draw_engine(rt, alloc, workers, &asked, reader, writer),
         Job::Accuse { general, asked } => {
             accuse_engine(
@@ -167,6 +179,7 @@ pub fn do_job<T: Threads + Wait + Sync, R: Read, W: Write>(
         Job::Show { asked, form } => show_engine(alloc, form, asked, reader, writer),
         Job::Root { height } => root_engine(alloc, height, reader, writer),
         Job::Header { version } => header_engine(alloc, version, reader, writer),
+        Job::Plan { version } => plan_engine(alloc, version, reader, writer),
         Job::Tell { what } => tell_engine(alloc, what, reader, writer),
     }
 }

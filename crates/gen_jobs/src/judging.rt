@@ -1,9 +1,8 @@
 //! The job `judge`: runs a scenario, and audits its logs meanwhile.
-ghost use Rattle.std.specs.Prelude.{◌<◌, IfOk, IfErr, IfSome};
+ghost use Rattle.std.specs.Prelude.{◌<◌, IfOk, IfErr, IfSome, option_map};
 ghost use Rattle.gen_jobs.specs.Answering.{Answers};
 ghost use Rattle.gen_jobs.specs.Asking.{IsJudgedAs};
 ghost use Rattle.gen_jobs.specs.Ends.{IsTaken, KeepsUntilWhole};
-ghost use Rattle.gen_jobs.specs.Judging.{IsJudged};
 ghost use Rattle.gen_jobs.specs.Run.{IsRunFault};
 
 use crate::auditing::judgement_output;
@@ -11,45 +10,29 @@ use crate::counting::{counted, has_few};
 use crate::ends::{JobEnd, JobFault, Output};
 use crate::forms::Form;
 use crate::gates::Open;
+use crate::origins::{nothing_asked, origin_in};
 use crate::running::seeded_scenario;
 use crate::transfer::{deliver, read_all};
 use gen_audit::WorkerCount;
-use gen_judge::run_and_audit;
+use gen_judge::run_and_audit_bundle;
+use gen_plan::equal_roots;
 use gen_prepare::walks_between;
 use std::alloc::Global;
 use std::io::{Read, Write};
 use std::sync::Wait;
 use std::thread::Threads;
 
-/// Returns the text of the judgement on the run of the scenario that the input spells, and whether its verdict is a no.
-/// It is what `audit` makes of what `run` makes of the input. But each general's logs are read and verified while other
-/// generals may still run, and no bundle is written. The trees of keys are made by threads. Each general and each
-/// worker runs in a thread of its own; the edges hold `capacity` frames each, at least one.
+/// Returns in this form the judgement on the run of the scenario that the input spells, and whether it counts as a no.
+/// What says no does. If it is asked strictly, so does a yes that says `explained`, and a yes if two generals have the
+/// same root: a line for each such pair then ends an answer that is lines. It is what `audit_as_asked` makes of what
+/// `run_in_pieces` makes of the input. But each general's logs are read and verified while other generals may still run,
+/// and no bundle is written. As JSON it tells the input's name, if it has one. The trees of keys are made by threads. Each
+/// general and each worker runs in a thread of its own; the edges hold `capacity` frames each, at least one.
 ///
 /// # Errors
 ///
 /// `Scenario` with the first fault of an input that spells no scenario. `Scenario` with `P6`, at the line after the
 /// order's, for a scenario without a seed. `Memory` if memory is refused; `Thread` if a thread can't be started.
-pub fn judge<T: Threads + Wait + Sync>(
-    rt: &T,
-    alloc: Global,
-    capacity: u8,
-    workers: WorkerCount,
-    input: &[u8],
-) -> Result<Output, JobFault>
-    requires { 0 < capacity }
-    ensures answer { IfOk result (λ o. IsJudged input.now o.text.items o.negative) }
-    ensures fault { IfErr result (IsRunFault input.now) }
-{
-    judge_as_asked(rt, alloc, capacity, workers, Form::Text, false, input)
-}
-
-/// Returns in this form the judgement that `judge` returns for the input, and whether it counts as a no. What says no
-/// does. If it is asked strictly, so does a yes that says `explained`.
-///
-/// # Errors
-///
-/// Those of `judge`.
 pub fn judge_as_asked<T: Threads + Wait + Sync>(
     rt: &T,
     alloc: Global,
@@ -57,10 +40,12 @@ pub fn judge_as_asked<T: Threads + Wait + Sync>(
     workers: WorkerCount,
     form: Form,
     strict: bool,
+    name: Option<&str>,
     input: &[u8],
 ) -> Result<Output, JobFault>
     requires { 0 < capacity }
-    ensures answer { IfOk result (λ o. IsJudgedAs form strict input.now o.text.items o.negative) }
+    ensures answer { IfOk result (λ o. IsJudgedAs form strict (option_map (λ t. t.now) name.entry)
+        input.now o.text.items o.negative) }
     ensures fault { IfErr result (IsRunFault input.now) }
 {
     let scenario = seeded_scenario(rt, alloc, input)?;
@@ -69,17 +54,20 @@ pub fn judge_as_asked<T: Threads + Wait + Sync>(
     let net = header.net();
     let walks = walks_between(alloc, net, &net.rest(&faulty))?;
     let capacity = usize::from(capacity);
-    let judgement = run_and_audit(
+    let (bundle, judgement) = run_and_audit_bundle(
         rt, alloc, &scenario, capacity, &faulty, &walks, workers, &Open, &Open,
     )?;
-    let output = judgement_output(alloc, form, header, &faulty, &judgement)?;
-    Ok(counted(output, strict, has_few(net, &faulty)))
+    let origin = origin_in(alloc, form, name, &nothing_asked(), input)?;
+    let output = judgement_output(alloc, &origin, &bundle, &judgement)?;
+    let few = has_few(net, &faulty);
+    let shared = equal_roots(alloc, header)?;
+    Ok(counted(alloc, output, &origin, strict, few, &shared)?)
 }
 
 /// Reads a scenario text with a seed to its end, runs it while this many workers audit the logs that are there, and
 /// writes in this form the verdict on the bundle that `run_engine` would write. Each general runs in a thread of its own; the edges
 /// hold `capacity` frames each, at least one. The end is negative if the verdict counts as a no: a no does, and if it
-/// is asked strictly, `explained` too.
+/// is asked strictly, `explained` and a header with equal roots too.
 ///
 /// A fault of the input is looked for after the whole input was read, and nothing is written before the output is
 /// whole. If a read, a write, memory or a thread fails, the job ends with that fault.
@@ -91,13 +79,14 @@ pub fn judge_engine<T: Threads + Wait + Sync, R: Read, W: Write>(
     workers: WorkerCount,
     form: Form,
     strict: bool,
+    name: Option<&str>,
     reader: &mut R,
     writer: &mut W,
 ) -> JobEnd
     requires { 0 < capacity }
     // What is written is the verdict on the run of the scenario that was read.
     ensures answers { IfSome (R.remaining reader.old) (λ input.
-        Answers (IsJudgedAs form strict input) (IsRunFault input)
+        Answers (IsJudgedAs form strict (option_map (λ t. t.now) name.entry) input) (IsRunFault input)
         (W.contents writer.old) (W.contents writer.new) result) }
     // What was read is within the limit.
     ensures taken { IfSome (R.remaining reader.old) (λ input. IsTaken input result) }
@@ -107,7 +96,7 @@ pub fn judge_engine<T: Threads + Wait + Sync, R: Read, W: Write>(
     match read_all(alloc, reader) {
         Ok(input) => deliver(
             writer,
-            judge_as_asked(rt, alloc, capacity, workers, form, strict, &input),
+            judge_as_asked(rt, alloc, capacity, workers, form, strict, name, &input),
         ),
         Err(fault) => JobEnd::Failed(fault),
     }

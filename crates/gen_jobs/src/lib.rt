@@ -1,8 +1,8 @@
 //! The jobs that can be done with an input: decide, run, judge, run a campaign, audit, draw, accuse, show, tell, and
 //! check evidence.
 //!
-//! `decide`, `run`, `judge`, `campaign`, `audit`, `draw`, `accuse` and `evidence` take the bytes of an input, and
-//! return the text that answers it or its first fault. They need no reader, no writer and no words of a command line.
+//! Each job has a call that takes the bytes of an input, as `decide` and `audit_as_asked`, and returns the text that
+//! answers it or its first fault. They need no reader, no writer and no words of a command line.
 //! Above them stand the engines, which read an input to its end and write the answer; `do_job` runs the engine of a
 //! `Job`. A contract of an engine says what is appended to what the writer held, as far as reader and writer are known,
 //! and that nothing is written before the text is whole. It doesn't say when a reader, a writer, memory or a thread
@@ -21,34 +21,40 @@ mod counting;
 mod deciding;
 mod drawing;
 mod ends;
+mod fault_json;
 mod fault_lines;
 mod faulty;
 mod forms;
 mod gates;
 mod holding;
 mod in_place;
+mod input_kinds;
 mod jobs;
 mod joining;
 mod judging;
 pub mod laws;
 mod naming;
+mod origins;
+mod plan_lines;
+mod planning;
 mod preparing;
 mod running;
 mod showing;
 mod telling;
 mod transfer;
 
-pub use accusing::{accuse, accuse_as_asked, accuse_engine, accuse_taken};
+pub use accusing::{accuse_as_asked, accuse_engine};
 pub use asked::Asked;
 pub use asked_runs::{AskedRuns, read_run_ids};
-pub use auditing::{audit, audit_as_asked, audit_engine, audit_taken};
+pub use auditing::{audit_as_asked, audit_engine};
 pub use bundle_text::{BundleText, deliver_bundle};
 pub use campaign_text::{CampaignText, deliver_campaign};
 pub use campaigning::{campaign, campaign_engine};
 pub use checking::{evidence, evidence_as_asked, evidence_engine, evidence_in};
 pub use deciding::{decide, decide_engine, decide_in};
-pub use drawing::{draw, draw_as_asked, draw_engine, draw_taken};
+pub use drawing::{draw_as_asked, draw_engine};
 pub use ends::{JobEnd, JobFault, Output};
+pub use fault_json::job_fault_json;
 pub use fault_lines::job_fault_line;
 pub use faulty::{Faulty, read_faulty};
 pub use forms::Form;
@@ -56,12 +62,14 @@ pub use in_place::{
     accuse_asked_in_place, accuse_in_place, audit_asked_in_place, audit_form_in_place,
     audit_in_place, draw_asked_in_place, draw_in_place,
 };
+pub use input_kinds::{InputKind, input_kind};
 pub use jobs::{Job, do_job};
 pub use joining::{answer, join_in_pieces};
-pub use judging::{judge, judge_as_asked, judge_engine};
-pub use naming::{name_file, name_runs};
+pub use judging::{judge_as_asked, judge_engine};
+pub use naming::name_file;
+pub use planning::{plan, plan_engine};
 pub use preparing::{header, header_engine, root, root_engine};
-pub use running::{run, run_engine, run_in_pieces};
-pub use showing::{show_as_asked, show_engine, show_in};
+pub use running::{run_engine, run_in_pieces};
+pub use showing::{show_engine, show_in};
 pub use telling::{Telling, tell, tell_engine};
 pub use transfer::{deliver, read_all, write_output};

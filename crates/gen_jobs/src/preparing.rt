@@ -55,12 +55,13 @@ pub fn root_engine<R: Read, W: Write>(
     }
 }
 
-/// Returns the bytes of the header of this version that a text spells. The slot of version 2 must be 0 to 3. The output
-/// never says no.
+/// Returns the bytes of the header of this version that a text spells, if each of its generals has a root of its own.
+/// The slot of version 2 must be 0 to 3. The output never says no.
 ///
 /// # Errors
 ///
-/// `Scenario` with the first fault of an input that spells no header; `Memory` if memory is refused.
+/// `Scenario` with the first fault of an input that spells no header; `EqualRoots` with the least pair of generals that
+/// have the same root, if the input spells one; `Memory` if memory is refused.
 pub fn header(alloc: Global, version: Version, input: &[u8]) -> Result<Output, JobFault>
     requires { slot_in version ≤ greatest_slot }
     ensures answer { IfOk result (λ o. IsHeaderOf version input.now o.text.items o.negative) }

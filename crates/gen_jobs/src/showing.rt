@@ -4,7 +4,7 @@ ghost use Rattle.std.specs.Bool.{Decides};
 ghost use Rattle.gen_show.specs.Showing.{file_kind};
 ghost use Rattle.gen_jobs.specs.Answering.{Answers};
 ghost use Rattle.gen_jobs.specs.Ends.{IsTaken, KeepsUntilWhole};
-ghost use Rattle.gen_jobs.specs.Showing.{AreAskedOf, IsShownFault, IsShownIn, IsShownOf, runs_as};
+ghost use Rattle.gen_jobs.specs.Showing.{AreAskedOf, IsShownFault, IsShownIn, runs_as};
 
 use crate::asked_runs::{AskedRuns, run_ids};
 use crate::ends::{JobEnd, JobFault, Output};
@@ -84,19 +84,6 @@ pub fn show_in(
     } else {
         Err(JobFault::OtherRun)
     }
-}
-
-/// Returns what a file is, as lines of text. The output says no if it is no whole bundle, campaign, evidence or header.
-/// If runs are asked for, it must be whole and of these runs.
-///
-/// # Errors
-///
-/// `OtherRun` if runs are asked for, and the file is not whole or of other runs; `Memory` if memory is refused.
-pub fn show_as_asked(alloc: Global, asked: AskedRuns, input: &[u8]) -> Result<Output, JobFault>
-    ensures answer { IfOk result (λ o. IsShownOf asked input.now o.text.items o.negative) }
-    ensures fault { IfErr result (IsShownFault asked input.now) }
-{
-    show_in(alloc, Form::Text, asked, input)
 }
 
 /// Reads a file to its end, and writes in this form, line by line, what it is; nothing if runs are asked for, and the

@@ -7,6 +7,8 @@ pub mod PlainCampaigns
 pub mod PlainDecisions
 pub mod PlainEntries
 pub mod PlainEvidence
+pub mod PlainLogs
+pub mod PlainOrigins
 pub mod PlainShown
 pub mod PlainVerdicts
 pub mod Ranges

@@ -7,18 +7,21 @@ use Rattle.gen_log.specs.declared.entries.Entry.{Entry}
 use Rattle.gen_log.specs.declared.entries.Entry.TheVariants.{Start, Sign, Send, Recv, Decide}
 use Rattle.gen_log.specs.declared.fault.LogFault.{LogFault}
 use Rattle.gen_log.specs.Log.{RunLog}
-use Rattle.gen_json.specs.JsonData.{digits_data}
+use Rattle.gen_json.specs.JsonData.{digits_data, pair_data}
 use Rattle.gen_json.proofs.Plain.{items_plain, numbers_plain}
 use Rattle.gen_json.specs.BundleData.{end_data, faulty_data, place_data, walk_data}
 use Rattle.gen_json.specs.CampaignLines.{campaign_data}
 use Rattle.gen_json.specs.FaultData.{fault_data}
-use Rattle.gen_json.specs.HeaderData.{edge_data, header_data}
+use Rattle.gen_json.specs.HeaderData.{equal_roots_data, header_data}
 use Rattle.gen_json.specs.LogData.{decided_data, head_data, last_order, log_data, order_of, unreadable_data}
 
 pub header_plain : (name : List ℕ) (h : RunHeader) → has_float (header_data name h) ≡ false
 header_plain name h =
     unfold header_data in
-    rw (items_plain edge_data (λ e. refl) h.network.edges, items_plain digits_data (λ root. refl) h.roots) refl
+    rw (items_plain pair_data (λ e. refl) h.network.edges, items_plain digits_data (λ root. refl) h.roots) refl
+
+pub equal_roots_plain : (pair : ℕ × ℕ) → has_float (equal_roots_data pair) ≡ false
+equal_roots_plain pair = unfold equal_roots_data in refl
 
 pub log_plain : (general at size : ℕ) (log : RunLog) → has_float (log_data general at size log) ≡ false
 log_plain general at size log = unfold log_data in refl

@@ -13,6 +13,7 @@ use Rattle.gen_net.specs.declared.marks.Marks.{Marks}
 use Rattle.gen_net.specs.FrontReading.{front_at}
 use Rattle.gen_net.specs.Header.{RunHeader}
 use Rattle.gen_net.specs.HeaderReading.{header_at}
+use Rattle.gen_plan.specs.EqualRoots.{equal_roots}
 use Rattle.gen_log.specs.declared.entries.Entry.{Entry}
 use Rattle.gen_log.specs.declared.fault.LogFault.{LogFault}
 use Rattle.gen_log.specs.Entry.{entry_length}
@@ -44,11 +45,11 @@ use Rattle.gen_json.specs.CampaignLines.{alone_lines, campaign_data, several_lin
 use Rattle.gen_json.specs.EntryData.{entry_data, entry_lines}
 use Rattle.gen_json.specs.EvidenceLines.{claim_lines, evidence_line, evidence_lines}
 use Rattle.gen_json.specs.FaultData.{fault_data, fault_line}
-use Rattle.gen_json.specs.HeaderData.{header_data}
+use Rattle.gen_json.specs.HeaderData.{equal_roots_data, equal_roots_line, header_data, header_lines}
 use Rattle.gen_json.specs.LineLists.{AreLines, ShownAreLines}
 use Rattle.gen_json.specs.LogData.{head_data, log_data, log_lines, reading_lines, unreadable_data}
 use Rattle.gen_json.specs.ShowingLines.{IsEvidenceText, campaign_reading_lines, faulty_lines, front_lines, header_ending, header_reading_lines}
-use Rattle.gen_json.proofs.PlainShown.{campaign_plain, end_plain, fault_plain, faulty_plain, head_plain, header_plain, log_plain, place_plain, unreadable_plain, walk_plain}
+use Rattle.gen_json.proofs.PlainShown.{campaign_plain, end_plain, equal_roots_plain, fault_plain, faulty_plain, head_plain, header_plain, log_plain, place_plain, unreadable_plain, walk_plain}
 use Rattle.gen_json.proofs.PlainEntries.{entry_plain}
 
 abbrev IsPlain : Data → Type 0
@@ -73,6 +74,18 @@ both a b x y = (
   },
 )
 
+-- ---- headers
+
+equal_roots_lined : (pairs : List (ℕ × ℕ)) → Lined (flat_map equal_roots_line pairs)
+equal_roots_lined [] = nothing
+equal_roots_lined (pair ∷ pairs) =
+    both (equal_roots_line pair) (flat_map equal_roots_line pairs) (line (equal_roots_data pair) (equal_roots_plain pair)) (equal_roots_lined pairs)
+
+head : (name : List ℕ) (h : RunHeader) → Lined (header_lines name h)
+head name h =
+    unfold header_lines in
+    both (json_line (header_data name h)) (flat_map equal_roots_line (equal_roots h)) (line (header_data name h) (header_plain name h)) (equal_roots_lined (equal_roots h))
+
 -- ---- logs
 
 entries : (keeper number at : ℕ) (es : List Entry) → Lined (entry_lines keeper number at es)
@@ -86,10 +99,10 @@ reading general at size (Err fault) = line (unreadable_data general at size faul
 reading general at size (Ok log) =
     let first = at + log_front_length in
     let last = at + log_front_length + sum_by entry_length log.entries in
-    let head = head_data general last log.entries in
-    both (json_line (log_data general at size log)) (entry_lines general 0 first log.entries ++ json_line head)
+    let end = head_data general last log.entries in
+    both (json_line (log_data general at size log)) (entry_lines general 0 first log.entries ++ json_line end)
     (line (log_data general at size log) (log_plain general at size log))
-    (both (entry_lines general 0 first log.entries) (json_line head) (entries general 0 first log.entries) (line head (head_plain general last log.entries)))
+    (both (entry_lines general 0 first log.entries) (json_line end) (entries general 0 first log.entries) (line end (head_plain general last log.entries)))
 
 log : (h : RunHeader) (general at : ℕ) (bytes : List ℕ) → Lined (log_lines h general at bytes)
 log h general at bytes = unfold log_lines in reading general at (length bytes) (log_of h bytes)
@@ -123,9 +136,9 @@ bundle : (at : ℕ) (b : Bundle) → Lined (bundle_lines at b)
 bundle at b =
     let first = at + bundle_front_length b in
     unfold bundle_lines in
-    both (json_line (header_data (codes "bundle") b.header))
+    both (header_lines (codes "bundle") b.header)
     (json_line (faulty_data b.faulty) ++ (flat_map walk_line b.walks ++ (exhibit_lines b.header first b.exhibits ++ end_line)))
-    (line (header_data (codes "bundle") b.header) (header_plain (codes "bundle") b.header))
+    (head (codes "bundle") b.header)
     (both (json_line (faulty_data b.faulty)) (flat_map walk_line b.walks ++ (exhibit_lines b.header first b.exhibits ++ end_line))
     (line (faulty_data b.faulty) (faulty_plain b.faulty)) (behind_faulty b.header first b.walks b.exhibits))
 
@@ -161,15 +174,15 @@ claim h accused (TwoTexts x y) = nothing
 claim h accused (TwoOrders v a w b) = nothing
 claim h accused (MissingFromLog bytes s signature) = log h accused (claim_log_at h) bytes
 claim h accused (DepartingLog bytes p) = log h accused (claim_log_at h) bytes
-claim h accused (AcrossRuns x y) = line (header_data (codes "header") y.header) (header_plain (codes "header") y.header)
+claim h accused (AcrossRuns x y) = head (codes "header") y.header
 
 told : (holds : Bool) (x : HeaderAndEvidence) → Lined (evidence_line holds x)
 told holds x = unfold evidence_line in line (evidence_data x.header x.evidence holds) (evidence_plain x.header x.evidence holds)
 
 evidence : (holds : Bool) (x : HeaderAndEvidence) → Lined (evidence_lines holds x)
 evidence holds x =
-    both (json_line (header_data (codes "evidence") x.header)) (claim_lines x.header x.evidence.accused x.evidence.claim ++ (evidence_line holds x ++ end_line))
-    (line (header_data (codes "evidence") x.header) (header_plain (codes "evidence") x.header))
+    both (header_lines (codes "evidence") x.header) (claim_lines x.header x.evidence.accused x.evidence.claim ++ (evidence_line holds x ++ end_line))
+    (head (codes "evidence") x.header)
     (both (claim_lines x.header x.evidence.accused x.evidence.claim) (evidence_line holds x ++ end_line)
     (claim x.header x.evidence.accused x.evidence.claim)
     (both (evidence_line holds x) end_line (told holds x) ending))
@@ -180,7 +193,7 @@ fault : (name : List ℕ) (at : ℕ) → Lined (fault_line name at)
 fault name at = unfold fault_line in line (fault_data name at) (fault_plain name at)
 
 front : (name : List ℕ) (r : Result (RunHeader × List ℕ) FrontFault) → Lined (front_lines name r)
-front name (Ok f) = line (header_data name f.0) (header_plain name f.0)
+front name (Ok f) = head name f.0
 front name (Err f) = nothing
 
 faulty : (name : List ℕ) (marks : Marks) (bytes name_of : List ℕ) → Lined (faulty_lines name marks bytes name_of)
@@ -199,8 +212,8 @@ header_end false at = fault (codes "left over") at
 
 header : (bytes : List ℕ) (r : Result (RunHeader × ℕ) HeaderFault) → Lined (header_reading_lines bytes r)
 header bytes (Ok x) =
-    both (json_line (header_data (codes "header") x.0)) (header_ending (x.1 == length bytes) x.1)
-    (line (header_data (codes "header") x.0) (header_plain (codes "header") x.0)) (header_end (x.1 == length bytes) x.1)
+    both (header_lines (codes "header") x.0) (header_ending (x.1 == length bytes) x.1)
+    (head (codes "header") x.0) (header_end (x.1 == length bytes) x.1)
 header bytes (Err f) = fault (header_fault_name f) 0
 
 -- a text that is another is lined as that is

@@ -8,7 +8,7 @@ use Rattle.gen_audit.specs.Bundle.{Bundle}
 use Rattle.gen_show.specs.BundleText.{bundle_front_length, bundle_length, exhibit_front_length, exhibit_length}
 use Rattle.gen_json.specs.JsonData.{fields, json_version, numbers_data, whole}
 use Rattle.gen_json.specs.Line.{json_line}
-use Rattle.gen_json.specs.HeaderData.{header_data}
+use Rattle.gen_json.specs.HeaderData.{header_lines}
 use Rattle.gen_json.specs.LogData.{log_lines}
 
 -- the generals that are held for faulty
@@ -49,7 +49,7 @@ exhibit_lines h at (x ∷ xs) =
 -- walks and the exhibits
 unfoldable pub bundle_lines : ℕ → Bundle → List ℕ
 bundle_lines at b =
-    json_line (header_data (codes "bundle") b.header)
+    header_lines (codes "bundle") b.header
     ++ (json_line (faulty_data b.faulty)
     ++ (flat_map walk_line b.walks
     ++ (exhibit_lines b.header (at + bundle_front_length b) b.exhibits ++ end_line)))

@@ -18,6 +18,13 @@ list_of f xs = array (items_of (map f xs))
 abbrev pub numbers_data : List ℕ → Data
 numbers_data ns = list_of whole ns
 
+-- two generals, and a list of such pairs
+abbrev pub pair_data : ℕ × ℕ → Data
+pair_data pair = numbers_data (pair.0 ∷ pair.1 ∷ [])
+
+abbrev pub pairs_data : List (ℕ × ℕ) → Data
+pairs_data pairs = list_of pair_data pairs
+
 -- bytes in hexadecimal digits
 abbrev pub digits_data : List ℕ → Data
 digits_data bytes = string (encode_lower bytes)

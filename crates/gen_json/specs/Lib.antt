@@ -3,10 +3,12 @@ pub mod CampaignData
 pub mod CampaignLines
 pub mod ClaimData
 pub mod ConvictionData
+pub mod DecidedLogs
 pub mod DecisionData
 pub mod EntryData
 pub mod EvidenceData
 pub mod EvidenceLines
+pub mod FailureData
 pub mod FaultData
 pub mod FindingData
 pub mod HeaderData
@@ -14,6 +16,7 @@ pub mod JsonData
 pub mod Line
 pub mod LineLists
 pub mod LogData
+pub mod OriginData
 pub mod ShowingLines
 pub mod StatusData
 pub mod VerdictData

@@ -19,16 +19,15 @@ use Rattle.gen_show.specs.declared.kinds.FileKind.TheVariants.{OfHeader, OfEvide
 use Rattle.gen_show.specs.FaultText.{header_fault_name}
 use Rattle.gen_show.specs.FileFaultText.{campaign_fault_name, evidence_fault_name}
 use Rattle.gen_show.specs.Showing.{Holds, front_end}
-use Rattle.gen_json.specs.Line.{json_line}
 use Rattle.gen_json.specs.BundleData.{end_line}
 use Rattle.gen_json.specs.CampaignLines.{campaign_lines}
 use Rattle.gen_json.specs.EvidenceLines.{evidence_lines}
 use Rattle.gen_json.specs.FaultData.{fault_line}
-use Rattle.gen_json.specs.HeaderData.{header_data}
+use Rattle.gen_json.specs.HeaderData.{header_lines}
 
 -- the line of the header with which a file begins, behind a mark; none where no header stands there
 abbrev pub front_lines : List ℕ → Result (RunHeader × List ℕ) FrontFault → List ℕ
-front_lines name (Ok front) = json_line (header_data name front.0)
+front_lines name (Ok front) = header_lines name front.0
 front_lines name (Err fault) = []
 
 -- the lines of what doesn't read: the header, if that reads, and the fault with the byte up to which the file
@@ -61,7 +60,7 @@ header_ending false at = fault_line (codes "left over") at
 -- the lines of what is read as a header alone: a header with the number of its bytes
 abbrev pub header_reading_lines : List ℕ → Result (RunHeader × ℕ) HeaderFault → List ℕ
 header_reading_lines bytes (Ok x) =
-    json_line (header_data (codes "header") x.0) ++ header_ending (x.1 == length bytes) x.1
+    header_lines (codes "header") x.0 ++ header_ending (x.1 == length bytes) x.1
 header_reading_lines bytes (Err fault) = fault_line (header_fault_name fault) 0
 
 -- the text is that of a file that is read as one of this kind

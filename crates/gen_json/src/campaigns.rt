@@ -10,6 +10,7 @@ ghost use Rattle.gen_json.specs.Line.{ReadsAs, json_line};
 use crate::convictions::conviction_value;
 use crate::lines::value_line;
 use crate::objects::{JSON_VERSION, ObjectBuilder};
+use crate::origins::{Origin, finish_from};
 use crate::verdicts::judgement_value;
 use gen_audit::{Bundle, Judgement};
 use gen_campaign::{CampaignBundle, CampaignVerdict, place_of};
@@ -32,7 +33,7 @@ fn runs_value(
         let Some((judgement, more)) = rest.split_first() else {
             return Ok(Value::Array(list));
         };
-        let value = judgement_value(alloc, bundle.header(), bundle.faulty(), judgement)?;
+        let value = judgement_value(alloc, None, bundle, judgement)?;
         serde_json::push(&mut list, value)?;
         runs = others;
         rest = more;
@@ -58,14 +59,15 @@ fn across_value(alloc: Global, bundles: &[Bundle], evidence: &Evidence) -> Resul
     }
 }
 
-/// Returns the verdict on what is shown of a campaign. If that is a bundle that stands alone, it is the judgement on it,
-/// and null if there is none.
+/// Returns the verdict on what is shown of a campaign, with where the answer comes from. If that is a bundle that stands
+/// alone, it is the judgement on it, and null if there is none.
 fn campaign_value(
     alloc: Global,
+    origin: &Origin,
     campaign: &CampaignBundle,
     verdict: &CampaignVerdict,
 ) -> Result<Value, AllocError>
-    ensures { IfOk result (λ v. view v ≡ campaign_data campaign.now
+    ensures { IfOk result (λ v. view v ≡ campaign_data origin.now campaign.now
         verdict.now.judgements.items (map told_of verdict.now.across.items)) }
 {
     let bundles = campaign.bundles();
@@ -77,7 +79,7 @@ fn campaign_value(
         let Some((judgement, _)) = judgements.split_first() else {
             return Ok(Value::Null);
         };
-        judgement_value(alloc, bundle.header(), bundle.faulty(), judgement)
+        judgement_value(alloc, Some(origin), bundle, judgement)
     } else {
         let across = verdict.across.as_slice();
         let mut list = Vec::new(alloc);
@@ -90,13 +92,14 @@ fn campaign_value(
         object.put_text("format", "campaign verdict");
         object.put_made("runs", runs_value(alloc, bundles, judgements));
         object.put("version", Value::from(JSON_VERSION));
-        object.finish()
+        finish_from(alloc, object, origin)
     }
 }
 
 /// Returns the line of JSON of the verdict on a campaign. It has the judgement on each run, as `print_verdict_json`
 /// gives it, and for each conviction across two runs the general and the places of the two runs in the campaign,
-/// counted from 0. For a bundle that stands alone it is the line of `print_verdict_json`.
+/// counted from 0. It says once where the answer comes from. For a bundle that stands alone it is the line of
+/// `print_verdict_json`.
 ///
 /// The verdict is meant to be that of `audit_campaign` on the same campaign, with a judgement for each run. A run
 /// without a judgement is left out, and a bundle that stands alone without one is `null`.
@@ -106,16 +109,17 @@ fn campaign_value(
 /// `AllocError` if memory is refused.
 pub fn print_campaign_json(
     alloc: Global,
+    origin: &Origin,
     campaign: &CampaignBundle,
     verdict: &CampaignVerdict,
 ) -> Result<Vec<u8>, AllocError>
     // It is the line of this value, byte for byte.
-    ensures text { IfOk result (λ line. line.items ≡ json_line (campaign_data campaign.now
+    ensures text { IfOk result (λ line. line.items ≡ json_line (campaign_data origin.now campaign.now
         verdict.now.judgements.items (map told_of verdict.now.across.items))) }
     // A reader of JSON finds this value in it.
-    ensures reads { IfOk result (λ line. ReadsAs line.items (campaign_data campaign.now
+    ensures reads { IfOk result (λ line. ReadsAs line.items (campaign_data origin.now campaign.now
         verdict.now.judgements.items (map told_of verdict.now.across.items))) }
 {
-    let value = campaign_value(alloc, campaign, verdict)?;
+    let value = campaign_value(alloc, origin, campaign, verdict)?;
     value_line(alloc, &value)
 }

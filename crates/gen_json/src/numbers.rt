@@ -1,12 +1,12 @@
 //! Numbers, sets, digits and networks as JSON.
 ghost use Rattle.std.specs.Prelude.{◌≡◌, IfOk};
 ghost use Rattle.serde_json.specs.View.{view};
-ghost use Rattle.gen_json.specs.JsonData.{digits_data, network_data, numbers_data};
+ghost use Rattle.gen_json.specs.JsonData.{digits_data, list_of, network_data, numbers_data, pair_data, pairs_data};
 
 use crate::objects::ObjectBuilder;
 use gen_net::Net;
 use gen_types::{GeneralNo, NumberSet};
-use serde_json::Value;
+use serde_json::{Value, json};
 use std::alloc::{AllocError, Global};
 
 /// Returns bytes in hexadecimal digits.
@@ -19,6 +19,21 @@ pub fn digits_value(alloc: Global, bytes: &[u8; 32]) -> Result<Value, AllocError
 {
     let digits = hex::encode(alloc, *bytes)?;
     Ok(Value::String(digits))
+}
+
+/// Returns the list of strings of 32 bytes, each in hexadecimal digits.
+///
+/// # Errors
+///
+/// `AllocError` if memory is refused.
+pub fn all_digits_value(alloc: Global, all: &[[u8; 32]]) -> Result<Value, AllocError>
+    ensures { IfOk result (λ v. view v ≡ list_of digits_data all.now) }
+{
+    let mut list = Vec::new(alloc);
+    for bytes in all {
+        serde_json::push(&mut list, digits_value(alloc, bytes)?)?;
+    }
+    Ok(Value::Array(list))
 }
 
 /// Returns the list of the members of a set, ascending.
@@ -47,6 +62,34 @@ pub fn path_value(alloc: Global, generals: &[GeneralNo]) -> Result<Value, AllocE
     let mut list = Vec::new(alloc);
     for general in generals {
         serde_json::push(&mut list, Value::from(general.get()))?;
+    }
+    Ok(Value::Array(list))
+}
+
+/// Returns two generals.
+///
+/// # Errors
+///
+/// `AllocError` if memory is refused.
+pub fn pair_value(alloc: Global, pair: (GeneralNo, GeneralNo)) -> Result<Value, AllocError>
+    ensures { IfOk result (λ v. view v ≡ pair_data pair) }
+{
+    let (first, second) = (pair.0.get(), pair.1.get());
+    json!(in alloc; [first, second])
+}
+
+/// Returns the list of pairs of generals.
+///
+/// # Errors
+///
+/// `AllocError` if memory is refused.
+pub fn pairs_value(alloc: Global, pairs: &[(GeneralNo, GeneralNo)]) -> Result<Value, AllocError>
+    ensures { IfOk result (λ v. view v ≡ pairs_data pairs.now) }
+{
+    let mut list = Vec::new(alloc);
+    for pair in pairs {
+        let value = pair_value(alloc, *pair)?;
+        serde_json::push(&mut list, value)?;
     }
     Ok(Value::Array(list))
 }

@@ -1,8 +1,9 @@
 //! Bundles as JSON.
 ghost use Rattle.std.specs.Prelude.{◌≡◌, ◌+◌, ◌<◌, ◌^◌, ◌++◌, IfOk, OnOk, sum_by};
+ghost use Rattle.std.specs.List.{flat_map};
 ghost use Rattle.gen_show.specs.BundleText.{bundle_length, exhibit_length};
 ghost use Rattle.gen_json.specs.Line.{json_line};
-ghost use Rattle.gen_json.specs.BundleData.{bundle_lines, end_data, exhibit_lines, run_lines};
+ghost use Rattle.gen_json.specs.BundleData.{bundle_lines, end_data, exhibit_lines, faulty_data, run_lines, walk_line};
 
 use crate::numbers::{path_value, set_value};
 use crate::objects::{JSON_VERSION, ObjectBuilder};
@@ -13,6 +14,8 @@ use gen_audit::Bundle;
 use gen_local::Exhibit;
 use gen_net::Header;
 use gen_show::{EXHIBIT_FRONT, bundle_front_length, exhibit_bytes};
+use gen_types::GeneralSet;
+use gen_walks::Walk;
 use serde_json::Value;
 use std::alloc::{AllocError, Global};
 
@@ -51,8 +54,35 @@ pub fn push_end(alloc: Global, out: &mut Vec<u8>, name: &str) -> Result<(), Allo
     push_value(alloc, out, &object.finish()?)
 }
 
+/// Appends the line of the generals that are held for faulty.
+#[tactic(auto, using(crate::proofs::PlainShown::faulty_plain), unfolding(crate::specs::BundleData::faulty_data))]
+fn push_faulty(alloc: Global, out: &mut Vec<u8>, faulty: &GeneralSet) -> Result<(), AllocError>
+    ensures { OnOk result (out.new.items ≡ out.old.items ++ json_line (faulty_data faulty.now)) }
+{
+    let mut object = ObjectBuilder::new(alloc);
+    object.put_made("faulty", set_value(alloc, faulty));
+    object.put_text("format", "shown faulty");
+    object.put("version", Value::from(JSON_VERSION));
+    push_value(alloc, out, &object.finish()?)
+}
+
+/// Appends a line for each walk.
+#[tactic(auto, using(crate::proofs::PlainShown::walk_plain), unfolding(crate::specs::BundleData::walk_data))]
+fn push_walks(alloc: Global, out: &mut Vec<u8>, walks: &[Walk]) -> Result<(), AllocError>
+    ensures { OnOk result (out.new.items ≡ out.old.items ++ flat_map walk_line walks.now) }
+{
+    for walk in walks {
+        let mut object = ObjectBuilder::new(alloc);
+        object.put_text("format", "shown walk");
+        object.put("version", Value::from(JSON_VERSION));
+        object.put_made("walk", path_value(alloc, walk.generals()));
+        push_value(alloc, out, &object.finish()?)?;
+    }
+    Ok(())
+}
+
 /// Appends the lines of a bundle that begins at this byte of a file. Returns the byte at which it ends.
-#[tactic(auto, using(crate::proofs::PlainShown::faulty_plain, crate::proofs::PlainShown::walk_plain), unfolding(crate::specs::BundleData::bundle_lines, crate::specs::BundleData::faulty_data, crate::specs::BundleData::walk_data))]
+#[tactic(auto, unfolding(crate::specs::BundleData::bundle_lines))]
 pub fn push_bundle(
     alloc: Global,
     out: &mut Vec<u8>,
@@ -63,23 +93,11 @@ pub fn push_bundle(
     ensures text { OnOk result (out.new.items ≡ out.old.items ++ bundle_lines at bundle.now) }
     ensures end { IfOk result (λ end. end ≡ at + bundle_length bundle.now) }
 {
-    let header = bundle.header();
-    push_header(alloc, out, "bundle", header)?;
-    let mut faulty = ObjectBuilder::new(alloc);
-    faulty.put_made("faulty", set_value(alloc, bundle.faulty()));
-    faulty.put_text("format", "shown faulty");
-    faulty.put("version", Value::from(JSON_VERSION));
-    push_value(alloc, out, &faulty.finish()?)?;
-    let walks = bundle.walks().as_slice();
-    for walk in walks {
-        let mut object = ObjectBuilder::new(alloc);
-        object.put_text("format", "shown walk");
-        object.put("version", Value::from(JSON_VERSION));
-        object.put_made("walk", path_value(alloc, walk.generals()));
-        push_value(alloc, out, &object.finish()?)?;
-    }
+    push_header(alloc, out, "bundle", bundle.header())?;
+    push_faulty(alloc, out, bundle.faulty())?;
+    push_walks(alloc, out, bundle.walks().as_slice())?;
     let start = at + bundle_front_length(alloc, bundle)?;
-    let end = push_exhibits(alloc, out, header, start, bundle.exhibits())?;
+    let end = push_exhibits(alloc, out, bundle.header(), start, bundle.exhibits())?;
     push_end(alloc, out, "shown end")?;
     Ok(end)
 }

@@ -1,15 +1,17 @@
 //! Headers as JSON.
 ghost use Rattle.std.specs.Prelude.{◌≡◌, ◌++◌, IfOk, OnOk};
+ghost use Rattle.std.specs.List.{flat_map};
 ghost use Rattle.serde_json.specs.View.{view};
-ghost use Rattle.gen_json.specs.Line.{json_line};
-ghost use Rattle.gen_json.specs.HeaderData.{header_data};
+ghost use Rattle.gen_json.specs.HeaderData.{equal_roots_data, equal_roots_line, header_data, header_lines};
 
-use crate::numbers::{digits_value, network_value};
+use crate::numbers::{all_digits_value, digits_value, network_value, pair_value, pairs_value};
 use crate::objects::{JSON_VERSION, ObjectBuilder};
 use crate::shown_lines::push_value;
 use gen_net::Header;
+use gen_plan::equal_roots;
 use gen_show::version_number;
-use serde_json::{Value, json};
+use gen_types::GeneralNo;
+use serde_json::Value;
 use std::alloc::{AllocError, Global};
 
 /// Returns a header of a file of this name.
@@ -17,25 +19,12 @@ use std::alloc::{AllocError, Global};
 fn header_value(alloc: Global, name: &str, header: &Header) -> Result<Value, AllocError>
     ensures { IfOk result (λ v. view v ≡ header_data name.now header.now) }
 {
-    let edges = header.net().edges();
-    let mut edge_list = Vec::new(alloc);
-    for edge in edges {
-        let (first, second) = (edge.0.get(), edge.1.get());
-        let value = json!(in alloc; [first, second])?;
-        serde_json::push(&mut edge_list, value)?;
-    }
-    let roots = header.roots();
-    let mut root_list = Vec::new(alloc);
-    for root in roots {
-        let value = digits_value(alloc, root)?;
-        serde_json::push(&mut root_list, value)?;
-    }
     let mut object = ObjectBuilder::new(alloc);
-    object.put("edges", Value::Array(edge_list));
+    object.put_made("edges", pairs_value(alloc, header.net().edges()));
     object.put_text("file", name);
     object.put_text("format", "shown header");
     object.put_made("network", network_value(alloc, header.net()));
-    object.put("roots", Value::Array(root_list));
+    object.put_made("roots", all_digits_value(alloc, header.roots()));
     object.put_made("run", digits_value(alloc, header.run_id()));
     object.put("run_version", Value::from(version_number(header.version())));
     object.put("slot", Value::from(header.version().slot()));
@@ -43,17 +32,47 @@ fn header_value(alloc: Global, name: &str, header: &Header) -> Result<Value, All
     object.finish()
 }
 
-/// Appends the line of a header of a file of this name.
-#[tactic(auto, using(crate::proofs::PlainShown::header_plain))]
+/// Returns two generals with the same root.
+#[tactic(auto, unfolding(crate::specs::HeaderData::equal_roots_data))]
+fn equal_roots_value(alloc: Global, pair: (GeneralNo, GeneralNo)) -> Result<Value, AllocError>
+    ensures { IfOk result (λ v. view v ≡ equal_roots_data pair) }
+{
+    let mut object = ObjectBuilder::new(alloc);
+    object.put_text("format", "shown equal roots");
+    object.put_made("generals", pair_value(alloc, pair));
+    object.put("version", Value::from(JSON_VERSION));
+    object.finish()
+}
+
+/// Appends a line for each of these pairs of generals that have the same root.
+#[tactic(auto, using(crate::proofs::PlainShown::equal_roots_plain))]
+fn push_equal_roots(
+    alloc: Global,
+    out: &mut Vec<u8>,
+    pairs: &[(GeneralNo, GeneralNo)],
+) -> Result<(), AllocError>
+    ensures { OnOk result (out.new.items ≡ out.old.items ++ flat_map equal_roots_line pairs.now) }
+{
+    for pair in pairs {
+        let value = equal_roots_value(alloc, *pair)?;
+        push_value(alloc, out, &value)?;
+    }
+    Ok(())
+}
+
+/// Appends the lines of a header of a file of this name: the header, and the pairs of its generals that have the same
+/// root.
+#[tactic(auto, using(crate::proofs::PlainShown::header_plain), unfolding(crate::specs::HeaderData::header_lines))]
 pub fn push_header(
     alloc: Global,
     out: &mut Vec<u8>,
     name: &str,
     header: &Header,
 ) -> Result<(), AllocError>
-    ensures { OnOk result (out.new.items
-        ≡ out.old.items ++ json_line (header_data name.now header.now)) }
+    ensures { OnOk result (out.new.items ≡ out.old.items ++ header_lines name.now header.now) }
 {
     let value = header_value(alloc, name, header)?;
-    push_value(alloc, out, &value)
+    push_value(alloc, out, &value)?;
+    let pairs = equal_roots(alloc, header)?;
+    push_equal_roots(alloc, out, pairs.as_slice())
 }

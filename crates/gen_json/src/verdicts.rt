@@ -1,21 +1,25 @@
 //! Verdicts as JSON.
-ghost use Rattle.std.specs.Prelude.{◌≡◌, IfOk, map};
+ghost use Rattle.std.specs.Prelude.{◌≡◌, IfOk, Some, map, option_map};
 ghost use Rattle.serde_json.specs.View.{view};
 ghost use Rattle.gen_convict.specs.Evidence.{told_of};
+ghost use Rattle.gen_plan.specs.EqualRoots.{equal_roots};
+ghost use Rattle.gen_json.specs.JsonData.{pairs_data};
 ghost use Rattle.gen_json.specs.Line.{ReadsAs, json_line};
 ghost use Rattle.gen_json.specs.VerdictData.{decisions_in, judgement_data, order_data, verdict_word};
 
 use crate::convictions::convictions_value;
+use crate::decided_logs::logs_value;
 use crate::decisions::all_decided_value;
 use crate::findings::findings_value;
 use crate::lines::value_line;
-use crate::numbers::{digits_value, network_value, set_value};
+use crate::numbers::{digits_value, network_value, pairs_value, set_value};
 use crate::objects::{JSON_VERSION, ObjectBuilder};
+use crate::origins::{Origin, finish_from};
 use crate::statuses::statuses_value;
-use gen_audit::{Judgement, Verdict};
+use gen_audit::{Bundle, Judgement, Verdict};
 use gen_net::Header;
+use gen_plan::equal_roots;
 use gen_scenario::Decision;
-use gen_types::GeneralSet;
 use serde_json::Value;
 use std::alloc::{AllocError, Global};
 
@@ -33,26 +37,37 @@ fn parts(verdict: &Verdict) -> (&'static str, Value, &[Decision])
     }
 }
 
-/// Returns a judgement under a header, by which these generals are held for faulty.
+/// Returns the list of the pairs of generals of a header that have the same root.
+fn equal_roots_value(alloc: Global, header: &Header) -> Result<Value, AllocError>
+    ensures { IfOk result (λ v. view v ≡ pairs_data (equal_roots header.now)) }
+{
+    let pairs = equal_roots(alloc, header)?;
+    pairs_value(alloc, pairs.as_slice())
+}
+
+/// Returns the judgement on a bundle, with where the answer comes from, if that is told.
 pub(crate) fn judgement_value(
     alloc: Global,
-    header: &Header,
-    faulty: &GeneralSet,
+    origin: Option<&Origin>,
+    bundle: &Bundle,
     judgement: &Judgement,
 ) -> Result<Value, AllocError>
-    ensures { IfOk result (λ v. view v ≡ judgement_data header.now faulty.now
+    ensures { IfOk result (λ v. view v ≡ judgement_data (option_map (λ o. o.now) origin.entry) bundle.now
         judgement.now.verdict (map told_of judgement.now.convictions.items)) }
 {
     let (word, order, decisions) = parts(&judgement.verdict);
     let findings = judgement.verdict.findings();
     let accused = judgement.convictions.as_slice();
+    let (header, faulty) = (bundle.header(), bundle.faulty());
     let net = header.net();
     let mut object = ObjectBuilder::new(alloc);
     object.put_made("convictions", convictions_value(alloc, accused));
     object.put_made("decisions", all_decided_value(alloc, decisions));
+    object.put_made("equal_roots", equal_roots_value(alloc, header));
     object.put_made("faulty", set_value(alloc, faulty));
     object.put_made("findings", findings_value(alloc, findings));
     object.put_text("format", "verdict");
+    object.put_made("logs", logs_value(alloc, header, bundle.exhibits()));
     object.put_made("network", network_value(alloc, net));
     object.put("order", order);
     object.put_made("run", digits_value(alloc, header.run_id()));
@@ -62,29 +77,32 @@ pub(crate) fn judgement_value(
     );
     object.put_text("verdict", word);
     object.put("version", Value::from(JSON_VERSION));
-    object.finish()
+    match origin {
+        Some(origin) => finish_from(alloc, object, origin),
+        None => object.finish(),
+    }
 }
 
-/// Returns the line of JSON of a judgement on a run. It has the run id, the numbers of the network, the generals that
-/// are held for faulty, the status of each general, the verdict with its order, its decisions or its findings, and the
-/// convictions.
+/// Returns the line of JSON of a judgement on a bundle. It has the run id, the numbers of the network, the generals that
+/// are held for faulty, the pairs of generals that have the same root, the status of each general, what each log decided,
+/// the verdict with its order, its decisions or its findings, the convictions, and where the answer comes from.
 ///
 /// # Errors
 ///
 /// `AllocError` if memory is refused.
 pub fn print_verdict_json(
     alloc: Global,
-    header: &Header,
-    faulty: &GeneralSet,
+    origin: &Origin,
+    bundle: &Bundle,
     judgement: &Judgement,
 ) -> Result<Vec<u8>, AllocError>
     // It is the line of this value, byte for byte.
-    ensures text { IfOk result (λ line. line.items ≡ json_line (judgement_data header.now faulty.now
+    ensures text { IfOk result (λ line. line.items ≡ json_line (judgement_data (Some origin.now) bundle.now
         judgement.now.verdict (map told_of judgement.now.convictions.items))) }
     // A reader of JSON finds this value in it.
-    ensures reads { IfOk result (λ line. ReadsAs line.items (judgement_data header.now faulty.now
+    ensures reads { IfOk result (λ line. ReadsAs line.items (judgement_data (Some origin.now) bundle.now
         judgement.now.verdict (map told_of judgement.now.convictions.items))) }
 {
-    let value = judgement_value(alloc, header, faulty, judgement)?;
+    let value = judgement_value(alloc, Some(origin), bundle, judgement)?;
     value_line(alloc, &value)
 }

@@ -17,4 +17,4 @@ mod stopping;
 mod trays;
 mod working;
 
-pub use runs::run_and_audit;
+pub use runs::{run_and_audit, run_and_audit_bundle};

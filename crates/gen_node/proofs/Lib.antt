@@ -7,6 +7,7 @@ pub mod Places
 pub mod Rows
 pub mod Rounds
 pub mod Keeping
+pub mod LongestFrames
 pub mod Scenarios
 pub mod ShortFrames
 pub mod Runs

@@ -24,7 +24,7 @@ use Rattle.gen_scenario.specs.Signing.{Keys}
 use Rattle.gen_scenario.proofs.VerifiedLogs.{flat_most, suc_times}
 use Rattle.gen_general.specs.Loops.Journals.{IsHeardOf, IsRecord}
 use Rattle.gen_general.specs.Participant.{Participant, sender_at, sends}
-use Rattle.gen_general.proofs.JournalFits.{Acts, sends_of_round}
+use Rattle.gen_general.proofs.JournalFits.{Acts, IsOfRound, sends_of_round}
 use Rattle.gen_general.proofs.JournalRecvs.{keys_header}
 use Rattle.gen_node.specs.Frame.{IsParcel}
 
@@ -55,14 +55,14 @@ acts_alone p log none is =
       lines = λ lines e line h. let both : None ≡ Some lines = sym none ∙ e in absurd cc;
     }
 
-frame_is : (p : Participant) (to : ℕ) → p.known.script ≡ None → sends p to ≡ map chain_spelling (sends_by (sender_at p) None p.before p.round to)
+pub frame_is : (p : Participant) (to : ℕ) → p.known.script ≡ None → sends p to ≡ map chain_spelling (sends_by (sender_at p) None p.before p.round to)
 unfolding frame_of followers_frame
 frame_is p to none = rw none refl
 
-chain_is : (p : Participant) (log : LogWriter) (to : ℕ) → p.known.script ≡ None → IsRecord p log → (c : Chain) → Contains (sends_by (sender_at p) None p.before p.round to) c → IsSignedChain (height_of (sender_at p).keys.header) c
-chain_is p log to none is c h =
+pub chain_of_round : (p : Participant) (log : LogWriter) (to : ℕ) → p.known.script ≡ None → IsRecord p log → (c : Chain) → Contains (sends_by (sender_at p) None p.before p.round to) c → IsOfRound (sender_at p).keys.header p.round c
+chain_of_round p log to none is c h =
     let low = subst (λ (head : RunHeader). p.round ≤ rounds head.network) (sym (keys_header p.known p.ring)) is.low in
-    (sends_of_round (sender_at p) p.before p.round to (acts_alone p log none is) low None none c h).fits.chain
+    (sends_of_round (sender_at p) p.before p.round to (acts_alone p log none is) low None none c h)
 
 pub short_parcels : (p : Participant) (log : LogWriter) (to : ℕ) → p.known.script ≡ None → IsRecord p log → All IsParcel (sends p to)
 short_parcels p log to none is =
@@ -70,7 +70,7 @@ short_parcels p log to none is =
     let height = height_of (sender_at p).keys.header in
     subst (All IsParcel) (sym (frame_is p to none)) (All_of IsParcel (map chain_spelling cs) (λ parcel k.
     let m = Contains_mapped chain_spelling cs parcel k in
-    subst IsParcel m.2 (short_chain height m.0 (chain_is p log to none is m.0 m.1))))
+    subst IsParcel m.2 (short_chain height m.0 (chain_of_round p log to none is m.0 m.1).fits.chain)))
 
 -- ---- how many parcels there are
 
@@ -81,20 +81,24 @@ one_relay k me round (Some x) = elim (bool_cases (eqb (round_of x + 1) round)) [
   | inr other ↦ rw other (omega arith)
 ]
 
-few_signed : (k : Keys) (me : ℕ) (own : Option ℕ) (heard : List Heard) (round : ℕ) → length (signed_in k me own heard round) ≤ k.header.network.orders + 1
+few_signed : (k : Keys) (me : ℕ) (own : Option ℕ) (heard : List Heard) (round : ℕ) → 1 ≤ k.header.network.orders → length (signed_in k me own heard round) ≤ k.header.network.orders
 unfolding relays_in
-few_signed k me None heard round =
+few_signed k me None heard round some =
     let all = range_with_len 0 k.header.network.orders in
     omega (arith, flat_most (λ order. relayed k me round (first_of order heard)) 1 all (λ order. one_relay k me round (first_of order heard)), length-range_with_len 0 k.header.network.orders)
-few_signed k me (Some order) heard round = elim (bool_cases (eqb round 1)) [
-  | inl first ↦ rw first (omega arith)
+few_signed k me (Some order) heard round some = elim (bool_cases (eqb round 1)) [
+  | inl first ↦ rw first some
   | inr other ↦ rw other (omega arith)
 ]
 
-pub few_parcels : (p : Participant) (log : LogWriter) (to : ℕ) → p.known.script ≡ None → IsRecord p log → length (sends p to) < 2 ^ 16
-few_parcels p log to none is =
+pub a_parcel_an_order : (p : Participant) (log : LogWriter) (to : ℕ) → p.known.script ≡ None → IsRecord p log → length (sends p to) ≤ p.known.header.network.orders
+a_parcel_an_order p log to none is =
     let k : Keys = (sender_at p).keys in
     let signed : List Chain = signed_in k p.known.me p.known.own p.before p.round in
     let test = λ (c : Chain). not (is_among (signed_path c.signers) to) in
-    let orders = ap (λ (h : RunHeader). h.network.orders) (keys_header p.known p.ring) in
-    omega (arith, ap length (frame_is p to none), length-map (outside_of to signed) chain_spelling, length-filter test signed, count_by-le-length test signed, few_signed k p.known.me p.known.own p.before p.round, orders, is.known.header.network.ranges.few_orders)
+    let orders : k.header.network.orders ≡ p.known.header.network.orders = ap (λ (h : RunHeader). h.network.orders) (keys_header p.known p.ring) in
+    let some : 1 ≤ k.header.network.orders = omega (arith, orders, is.known.header.network.ranges.some_orders) in
+    omega (arith, ap length (frame_is p to none), length-map (outside_of to signed) chain_spelling, length-filter test signed, count_by-le-length test signed, few_signed k p.known.me p.known.own p.before p.round some, orders)
+
+pub few_parcels : (p : Participant) (log : LogWriter) (to : ℕ) → p.known.script ≡ None → IsRecord p log → length (sends p to) < 2 ^ 16
+few_parcels p log to none is = omega (arith, a_parcel_an_order p log to none is, is.known.header.network.ranges.few_orders)

@@ -3,6 +3,7 @@ pub mod FaultNumber
 pub mod Frame
 pub mod FrameReading
 pub mod Held
+pub mod Longest
 pub mod Loops
 pub mod Node
 pub mod NodeLaws

@@ -10,6 +10,7 @@ ghost use Rattle.gen_general.specs.Recording.{RingSealed, log_written};
 ghost use Rattle.gen_node.specs.declared.node_fault.NodeFault.TheVariants.{Memory, OtherHeight};
 ghost use Rattle.gen_node.specs.declared.stages.Stage.TheVariants.{Hearing, Sending};
 ghost use Rattle.gen_node.specs.Frame.{IsFrame, frame_spelling};
+ghost use Rattle.gen_node.specs.Longest.{IsInBounds};
 ghost use Rattle.gen_node.specs.Loops.Kept.{IsSignedFrom, heard_one, is_sending, next_sent, of_part, sent_one};
 ghost use Rattle.gen_node.specs.Node as nodes;
 ghost use Rattle.gen_node.specs.Node.{Node as Told, IsBegun, IsRefused, MayBeNode, decision_of_node, ended};
@@ -329,10 +330,13 @@ impl Node {
     /// # Errors
     ///
     /// `AllocError` if memory is refused. A frame is never too long: it has at most one parcel for each order, and each
-    /// parcel is a chain.
+    /// parcel is a chain with at most one signer for each round (`bounds`).
     pub fn to_send(&self, alloc: Global, to: GeneralNo) -> Result<Vec<u8>, AllocError>
         requires { nodes.awaits self.now to ≡ true }
-        ensures { IfOk result (λ bytes. Spells IsFrame frame_spelling bytes.items (frame_to self.now.recorder to)) }
+        ensures frame { IfOk result (λ bytes.
+            Spells IsFrame frame_spelling bytes.items (frame_to self.now.recorder to)) }
+        // A transport may drop what is not within these bounds.
+        ensures bounds { IsInBounds (header_at self.now.recorder) (frame_to self.now.recorder to) }
     {
         let front = FrameFront {
             run_id: *self.header.run_id(),

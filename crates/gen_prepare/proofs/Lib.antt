@@ -1,5 +1,6 @@
 pub mod HeaderAgain
 pub mod HeaderFound
+pub mod HeaderGiven
 pub mod NetAgain
 pub mod NetFound
 pub mod Ordered

@@ -1,8 +1,9 @@
--- Which header a text is, line by line, or which fault comes first and in which line.
-use Rattle.std.specs.Prelude.{ℕ, zero, suc, List, [], ◌∷◌, codes, Result, Ok, Err, if◌then◌else◌}
+-- Which header a text is, line by line, or which fault comes first and in which line; and which header it
+-- gives.
+use Rattle.std.specs.Prelude.{ℕ, zero, suc, List, [], ◌∷◌, codes, Option, None, Some, Result, Ok, Err, if◌then◌else◌}
 use Rattle.std.specs.Str.{bytes_eq}
 use Rattle.hex.specs.Hex.{decode_sized}
-use Rattle.gen_types.specs.Reading.{◌>>=◌, check}
+use Rattle.gen_types.specs.Reading.{◌>>=◌, check, map_fault}
 use Rattle.gen_net.specs.declared.version.Version.{Version}
 use Rattle.gen_net.specs.Header.{RunHeader}
 use Rattle.gen_report.specs.declared.fault.LineFault.TheVariants.{Shape, Extra}
@@ -11,6 +12,9 @@ use Rattle.gen_report.specs.Cursor.{Cursor, start_of}
 use Rattle.gen_report.specs.CursorReading.{next_line, is_over}
 use Rattle.gen_report.specs.KeysReading.{known_seed}
 use Rattle.gen_report.specs.LineReading.{fault_at}
+use Rattle.gen_plan.specs.EqualRoots.{equal_roots, first_pair}
+use Rattle.gen_prepare.specs.declared.header_fault.HeaderTextFault.{HeaderTextFault}
+use Rattle.gen_prepare.specs.declared.header_fault.HeaderTextFault.TheVariants.{Text, EqualRoots}
 use Rattle.gen_prepare.specs.NetText.{net_at}
 
 -- the root of the line k: Shape if it is no line of a root, or BadSeed if its digits are not 64 hexadecimal
@@ -55,3 +59,15 @@ header_of_text version text = do
   after ← last_at roots.1
   over ← check (is_over after) (fault_at Extra after.line)
   Ok (record { version = version; network = net.0; roots = roots.0 })
+
+-- the header, unless two of its generals have the same root
+abbrev pub unless_shared : RunHeader → Option (ℕ × ℕ) → Result RunHeader HeaderTextFault
+unless_shared h None = Ok h
+unless_shared h (Some pair) = Err (EqualRoots pair.0 pair.1)
+
+-- the header of this version that a text gives; or the text's first fault; or the least pair of generals with
+-- the same root
+unfoldable pub header_given : Version → List ℕ → Result RunHeader HeaderTextFault
+header_given version text = do
+  h ← map_fault Text (header_of_text version text)
+  unless_shared h (first_pair (equal_roots h))

@@ -5,9 +5,12 @@ ghost use Rattle.gen_types.specs.Spelled.{IsRead};
 ghost use Rattle.gen_net.specs.Header.{RunHeader, header_with};
 ghost use Rattle.gen_net.specs.Version.{greatest_slot, slot_in};
 ghost use Rattle.gen_prepare.specs.HeaderText.{SpellsHeader};
-ghost use Rattle.gen_prepare.specs.HeaderTextReading.{header_of_text, last_at, root_at, roots_at};
+ghost use Rattle.gen_prepare.specs.HeaderTextReading.{header_given, header_of_text, last_at, root_at, roots_at, unless_shared};
+ghost use Rattle.gen_plan.specs.EqualRoots.{HasOwnRoots, equal_roots, first_pair};
 
+use crate::header_fault::HeaderTextFault;
 use gen_net::{Header, HeaderFault, Net, Version};
+use gen_plan::first_equal_roots;
 use gen_report::{Cursor, LineFault, ScenarioFault, first_opening, net_behind};
 use gen_types::ReadError;
 use hex::FromHex;
@@ -88,28 +91,56 @@ fn whole(alloc: Global, version: Version, text: &[u8]) -> Result<Header, ReadErr
     Ok(header_with(version, net, roots).unwrap())
 }
 
-/// Returns the header of this version that a text spells. The text has the lines of a network as a scenario text has
-/// them, from that of the generals to that of the choice. Then comes a line `root HEX` for each general, in their order,
-/// with the root of the general's keys in 64 hexadecimal digits, and then the line `end`. The slot of version 2 must be
-/// 0 to 3.
+/// Returns the header, unless two of its generals have the same root.
+fn unless_shared(header: Header) -> Result<Header, HeaderTextFault>
+    ensures { result ≡ unless_shared header (first_pair (equal_roots header)) }
+{
+    match first_equal_roots(&header) {
+        Some((a, b)) => Err(HeaderTextFault::EqualRoots { a, b }),
+        None => Ok(header),
+    }
+}
+
+/// Reads a whole text, and returns the header of this version that it gives.
+#[tactic(auto, unfolding(crate::specs::HeaderTextReading::header_given))]
+fn given(alloc: Global, version: Version, text: &[u8]) -> Result<Header, ReadError<HeaderTextFault>>
+    requires { slot_in version ≤ greatest_slot }
+    ensures { IsRead result (header_given version text.now) }
+{
+    match whole(alloc, version, text) {
+        Ok(header) => unless_shared(header).map_err(ReadError::Fault),
+        Err(ReadError::Memory) => Err(ReadError::Memory),
+        Err(ReadError::Fault(fault)) => Err(ReadError::Fault(HeaderTextFault::Text(fault))),
+    }
+}
+
+/// Returns the header of this version that a text spells, if each of its generals has a root of its own. The text has
+/// the lines of a network as a scenario text has them, from that of the generals to that of the choice. Then comes a
+/// line `root HEX` for each general, in their order, with the root of the general's keys in 64 hexadecimal digits, and
+/// then the line `end`. The slot of version 2 must be 0 to 3.
+///
+/// Two generals with the same root are one owner of keys that is counted as two. If both sign, each leaf signs twice,
+/// which gives its key away.
 ///
 /// # Errors
 ///
-/// The text's first fault, with its line, as `read_scenario` has it. `BadSeed` stands for a root that isn't 64
-/// hexadecimal digits, and `Extra` for bytes that follow the last line. Memory if memory was refused before a fault was
-/// met.
+/// `Text` with the text's first fault, and its line, as `read_scenario` has it. `BadSeed` stands for a root that isn't
+/// 64 hexadecimal digits, and `Extra` for bytes that follow the last line. `EqualRoots` with the least pair of generals
+/// that have the same root, if the text spells a header. Memory if memory was refused before a fault was met.
 pub fn read_header_text(
     alloc: Global,
     version: Version,
     text: &[u8],
-) -> Result<Header, ReadError<ScenarioFault>>
+) -> Result<Header, ReadError<HeaderTextFault>>
     requires { slot_in version ≤ greatest_slot }
     // If a header is read, the text spells it.
     ensures found { IfOk result (SpellsHeader version text.now) }
-    // If the text spells a header, that header is read, unless memory runs out.
-    ensures only { (h : RunHeader) → SpellsHeader version text.now h → IsRead result (Ok h) }
-    // The answer, and so the first fault and its line, is that of `header_of_text`.
-    ensures exact { IsRead result (header_of_text version text.now) }
+    // If a header is read, each of its generals has a root of its own.
+    ensures own { IfOk result HasOwnRoots }
+    // If the text spells a header whose generals have roots of their own, that header is read, unless memory runs out.
+    ensures only { (h : RunHeader) → SpellsHeader version text.now h → HasOwnRoots h → IsRead result (Ok h) }
+    // The answer, and so the first fault and its line, is that of `header_given`.
+    ensures exact { IsRead result (header_given version text.now) }
 {
-    whole(alloc, version, text)
+    given(alloc, version, text)
 }

@@ -8,6 +8,7 @@
 mod answer_lines;
 mod answers;
 mod gathering;
+mod header_fault;
 mod header_text;
 mod holding;
 mod ordering;
@@ -17,6 +18,7 @@ mod walking;
 
 pub use answers::{AnswerFault, AnswerText, answer};
 pub use gathering::{bundle_of_parts, gather};
+pub use header_fault::HeaderTextFault;
 pub use header_text::read_header_text;
 pub use holding::hold;
 pub use roots::root_text;

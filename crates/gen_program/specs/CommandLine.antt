@@ -59,9 +59,9 @@ print_run = flag_named (codes "print-run")
 abbrev pub file : Rule
 file = word_named (codes "file")
 
--- the name that is explained, in the place of a file
+-- the name that is explained, in the place of a file; all names are listed, if it is absent
 abbrev pub name : Rule
-name = record (word_named (codes "file")) { required = true }
+name = word_named (codes "file")
 
 -- the file of a header, or of evidence, in the place of the file of the input
 abbrev pub first_file : Rule
@@ -116,6 +116,9 @@ root = with_rule (with_rule (new_app (codes "root")) tall) file
 
 abbrev pub header : App
 header = with_rule (with_rule (with_rule (new_app (codes "header")) slot) print_run) file
+
+abbrev pub plan : App
+plan = with_rule (with_rule (new_app (codes "plan")) slot) file
 
 abbrev pub bundle : App
 bundle = with_rule (with_rule (with_rule (new_app (codes "bundle")) faulty) first_file) logs
@@ -173,8 +176,11 @@ with_root = with_subcommand with_show root.top
 abbrev pub with_header : App
 with_header = with_subcommand with_root header.top
 
+abbrev pub with_plan : App
+with_plan = with_subcommand with_header plan.top
+
 abbrev pub with_bundle : App
-with_bundle = with_subcommand with_header bundle.top
+with_bundle = with_subcommand with_plan bundle.top
 
 abbrev pub with_answer : App
 with_answer = with_subcommand with_bundle answer.top

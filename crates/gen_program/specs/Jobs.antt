@@ -92,13 +92,14 @@ job_accusing (Some g) None = None
 job_accusing (Some g) (Some runs) = Some (jobs.Accuse g runs)
 
 -- the job of a command that shows, prepares or tells: `evidence` or `show`, if the runs that are asked for
--- are known, `root`, `header`, if its version is known, or one that tells what its name says
+-- are known, `root`, `header` or `plan`, if its version is known, or one that tells what its name says
 unfoldable pub job_showing : Text → Choices → Option Job
 job_showing name choices =
     if bytes_eq name (codes "evidence") then option_map (λ r. jobs.Evidence r choices.form) choices.runs
     else if bytes_eq name (codes "show") then option_map (λ r. jobs.Show r choices.form) choices.runs
     else if bytes_eq name (codes "root") then Some (jobs.Root choices.height)
     else if bytes_eq name (codes "header") then option_map (λ version. jobs.Header version) choices.version
+    else if bytes_eq name (codes "plan") then option_map (λ version. jobs.Plan version) choices.version
     else if bytes_eq name (codes "explain") then Some (jobs.Tell tellings.Name)
     else if bytes_eq name (codes "words") then Some (jobs.Tell tellings.Text)
     else None

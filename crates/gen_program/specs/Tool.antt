@@ -66,7 +66,7 @@ takes_general name = bytes_eq name (codes "accuse")
 
 -- whether a command takes a slot
 abbrev pub takes_slot : Text → Bool
-takes_slot name = bytes_eq name (codes "header")
+takes_slot name = bytes_eq name (codes "header") || bytes_eq name (codes "plan")
 
 -- whether a command takes the runs that are asked for
 abbrev pub takes_runs : Text → Bool

@@ -25,7 +25,13 @@ pub(crate) fn show_usage<R: AllocGlobal + Eprint>(rt: &R) {
     }
 }
 
-/// Returns the lines of a text as one, with spaces between them, up to the one that says how the program is used.
+/// Returns what stands between a line and this one, where they are joined: each tip is a part of its own.
+fn joint_before(part: &str) -> &'static str {
+    if part.starts_with("tip:") { "; " } else { " " }
+}
+
+/// Returns the lines of a text as one, with a semicolon before each tip and a space before other lines, up to the one
+/// that says how the program is used.
 pub(crate) fn parts_of(alloc: Global, text: &str) -> Result<String, AllocError> {
     let mut line = String::new(alloc);
     for part in text.lines() {
@@ -34,7 +40,7 @@ pub(crate) fn parts_of(alloc: Global, text: &str) -> Result<String, AllocError> 
             return Ok(line);
         }
         if !line.is_empty() && !part.is_empty() {
-            line.push_str(" ")?;
+            line.push_str(joint_before(part))?;
         }
         line.push_str(part)?;
     }

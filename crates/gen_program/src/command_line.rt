@@ -8,6 +8,9 @@ use crate::command_builder::CommandBuilder;
 use clap::{Arg, ArgAction, Command};
 use std::alloc::{AllocError, Global};
 
+/// The name of the program, which lines of usage have however its file is called.
+const NAME: &str = "sm_tool";
+
 /// The end of the help: examples, the exit statuses, the faults, and where more is explained.
 const MORE: &str = "\
 Examples:
@@ -25,15 +28,16 @@ output is whole. Bundles, campaigns and evidence are bytes: redirect them.
 Exit status:
   0  done: the output is whole, and doesn't say no; a picture never does
   1  done: a verdict of audit or judge is a no, evidence fails, or there is no evidence against the general; with
-     --strict also: a verdict is 'explained'; of show, the file doesn't read whole; of explain, there is no such name
+     --strict also: a verdict is 'explained'; of show, the file doesn't read whole; of plan, the plan fails; of explain,
+     there is no such name
   2  the words ask for nothing that there is, or bytes would go to a terminal
   3  the input has a fault, which standard error names; 'fault R1' says that it is of another run
   4  memory or a thread was refused
   5  a file couldn't be opened, or a read or a write failed
 
-'sm_tool help run' tells of one command. 'man sm_tool' explains all of them. 'sm_tool explain' tells a name: of a
-fault, as P6, of a finding, as N8, or of a conviction, as K2. 'sm_tool words' tells a text line by line, as that of a
-verdict or of standard error. The rules of all names stand in FORMATS.md: in the folder share/doc/vamuretu where the
+'sm_tool help run' tells of one command. 'man sm_tool' explains all of them. 'sm_tool explain' lists all names of
+faults, findings and other words, and 'sm_tool explain N8' tells one. 'sm_tool words' tells a text line by line, as that
+of a verdict or of standard error. The rules of all names stand in FORMATS.md: in the folder share/doc/vamuretu where the
 program is installed, and in docs of an unpacked release or of the sources.";
 
 /// Returns an option with its name behind two hyphens, which takes one value, of which the help says this.
@@ -226,12 +230,12 @@ fn with_bundles<'a>(alloc: Global, tool: CommandBuilder<'a>) -> CommandBuilder<'
         .subcommand(show)
 }
 
-/// Returns the command line with the commands that prepare a run or a dispute, `root`, `header`, `bundle` and `answer`,
-/// and those that tell what a text means, `explain` and `words`.
+/// Returns the command line with the commands that prepare a run or a dispute: `root`, `header`, `plan`, `bundle` and
+/// `answer`.
 fn with_preparing<'a>(alloc: Global, tool: CommandBuilder<'a>) -> CommandBuilder<'a>
     ensures kept { result.refused ≡ false → tool.entry.refused ≡ false }
     ensures app { result.refused ≡ false → app_of tool.entry.command ≡ lines.with_show
-        → app_of result.command ≡ lines.tool }
+        → app_of result.command ≡ lines.with_answer }
 {
     let about = "Reads a seed of 32 bytes and prints the root of its keys";
     let tall = "Makes the tree of 64 leaves, for runs of version 2";
@@ -244,6 +248,12 @@ fn with_preparing<'a>(alloc: Global, tool: CommandBuilder<'a>) -> CommandBuilder
         .arg(option_named(alloc, "slot", "U", slot))
         .arg(print_run_flag(alloc))
         .arg(file_argument(alloc));
+    let about =
+        "Reads a header, its text, or a bundle, and prints whether the network can carry the run that is planned";
+    let slot = "Reads a text as that of version 2 in this slot, 0 to 3";
+    let plan = CommandBuilder::new(alloc, "plan", about)
+        .arg(option_named(alloc, "slot", "U", slot))
+        .arg(file_argument(alloc));
     let about = "Reads a header and logs, each from its file, and writes their bundle";
     let logs = "The number of a general, and the file of its log; as often as there are logs";
     let bundle = CommandBuilder::new(alloc, "bundle", about)
@@ -255,20 +265,28 @@ fn with_preparing<'a>(alloc: Global, tool: CommandBuilder<'a>) -> CommandBuilder
     let answer = CommandBuilder::new(alloc, "answer", about)
         .arg(word_named(alloc, "file", "EVIDENCE", "The file of the evidence").required(true))
         .arg(word_named(alloc, "log", "LOG", log).required(true));
-    let about = "Prints what a name means that stands in an answer; reads no input";
+    tool.subcommand(root)
+        .subcommand(header)
+        .subcommand(plan)
+        .subcommand(bundle)
+        .subcommand(answer)
+}
+
+/// Returns the command line with the commands that tell what a text means: `explain` and `words`.
+fn with_telling<'a>(alloc: Global, tool: CommandBuilder<'a>) -> CommandBuilder<'a>
+    ensures kept { result.refused ≡ false → tool.entry.refused ≡ false }
+    ensures app { result.refused ≡ false → app_of tool.entry.command ≡ lines.with_answer
+        → app_of result.command ≡ lines.tool }
+{
+    let about = "Prints what a name means that stands in an answer, or all names; reads no input";
     let name =
-        "A fault, finding, conviction, verdict or status, as N8, K2, P6, 'P9 S3', agreed or 'status 3'";
-    let name = word_named(alloc, "file", "NAME", name).required(true);
+        "A word of an answer, as N8, K2, P6, 'P9 S3', agreed, trusted or 'status 3'; all names are listed without it";
+    let name = word_named(alloc, "file", "NAME", name);
     let explain = CommandBuilder::new(alloc, "explain", about).arg(name);
     let about =
         "Reads a text of decisions or of a verdict, and prints it with what each line means";
     let words = CommandBuilder::new(alloc, "words", about).arg(file_argument(alloc));
-    tool.subcommand(root)
-        .subcommand(header)
-        .subcommand(bundle)
-        .subcommand(answer)
-        .subcommand(explain)
-        .subcommand(words)
+    tool.subcommand(explain).subcommand(words)
 }
 
 /// Returns the command line of the program, with all its commands: those that read a scenario or a campaign, those that
@@ -277,12 +295,14 @@ fn with_preparing<'a>(alloc: Global, tool: CommandBuilder<'a>) -> CommandBuilder
 pub fn tool_command<'a>(alloc: Global) -> Result<Command<'a>, AllocError>
     ensures { IfOk result (λ c. app_of c ≡ lines.tool) }
 {
-    let bare = Command::new(alloc, "sm_tool")
+    let bare = Command::new(alloc, NAME)
+        .bin_name(NAME)?
         .about("Runs and audits signed Byzantine agreement")
         .version("0.2.0")
         .after_help(MORE)
         .subcommand_required(true);
     let tool = with_scenarios(alloc, CommandBuilder::of(alloc, bare));
     let tool = with_bundles(alloc, tool);
-    with_preparing(alloc, tool).finish()
+    let tool = with_preparing(alloc, tool);
+    with_telling(alloc, tool).finish()
 }

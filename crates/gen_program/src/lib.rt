@@ -7,17 +7,23 @@
 #![tactic(auto)]
 
 mod blaming;
+mod built;
 mod choices;
 mod command_builder;
 mod command_line;
+mod details;
+mod ends;
+mod kinds;
 mod naming;
 mod program;
 mod reading;
 mod several;
 mod sources;
 mod terminals;
+mod watching;
 mod words;
 
+pub use built::Built;
 pub use program::{fault_line, run};
 pub use several::{Several, read_several};
 pub use terminals::Terminals;

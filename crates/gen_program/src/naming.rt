@@ -17,7 +17,7 @@ pub(crate) fn do_and_name<R: AllocGlobal + Eprint + Threads + Wait + Sync, S: Re
     requires { IsInRange job.now }
 {
     let mut text = Vec::new(rt.alloc());
-    match do_job(rt, rt.alloc(), *job, reader, &mut text) {
+    match do_job(rt, rt.alloc(), *job, None, reader, &mut text) {
         JobEnd::Done => {}
         // Only memory can be refused to what is written into memory.
         JobEnd::Failed(JobFault::Write) => return JobEnd::Failed(JobFault::Memory),

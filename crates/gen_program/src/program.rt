@@ -7,12 +7,17 @@ ghost use Rattle.gen_program.specs.Refusal.{IsStatus, PointsAtHelp, Refuses};
 ghost use Rattle.gen_program.specs.Sources.{writes_bytes};
 
 use crate::blaming::{given_value, parts_of, show_usage};
+use crate::built::Built;
+use crate::details::{Detail, STANDARD_INPUT, Seen};
+use crate::ends::{end_with, end_written, fail_with, finish_seen, finish_unopened};
 use crate::naming::do_and_name;
 use crate::reading::{answer_files, join_files, tell_waiting};
 use crate::several::{Several, read_several};
 use crate::sources::{Source, source_of};
 use crate::terminals::Terminals;
+use crate::watching::{WatchedReader, WatchedWriter};
 use crate::words::{WordsFault, read_request};
+use clap::error::ErrorKind;
 use gen_jobs::{Job, JobEnd, JobFault, Telling, deliver, deliver_bundle, do_job};
 use std::alloc::{AllocError, Global};
 use std::fs::File;
@@ -25,23 +30,24 @@ use std::{env, io};
 /// The exit status for words that ask for no job.
 const WORDS_STATUS: u8 = 2;
 
-/// Does what the words ask for, and returns the exit status.
+/// Does what the words of the process ask for, and returns the exit status. What the program was built of is the second
+/// line of its version.
 pub fn run<
     R: Env + Files + Terminals + AllocGlobal + Input + Print + Eprint + Threads + Wait + Sync,
->(rt: &R) -> u8
+>(rt: &R, built: &Built<'_>) -> u8
     ensures { IsStatus result }
 {
     let given: Result<Vec<String>, AllocError> = match env::args(rt) {
         Ok(given) => given.collect(rt.alloc()),
         Err(e) if e.kind() == io::ErrorKind::OutOfMemory => Err(AllocError),
-        Err(_) => return refuse(rt, &WordsFault::NotText, None),
+        Err(_) => return refuse(rt, &WordsFault::NotText, None, built),
     };
     let Ok(given) = given else {
-        return refuse(rt, &WordsFault::Memory, None);
+        return refuse(rt, &WordsFault::Memory, None, built);
     };
     match texts_of(rt.alloc(), &given) {
-        Ok(words) => answer(rt, &words),
-        Err(_) => refuse(rt, &WordsFault::Memory, None),
+        Ok(words) => answer(rt, &words, built),
+        Err(_) => refuse(rt, &WordsFault::Memory, None, built),
     }
 }
 
@@ -61,6 +67,7 @@ fn texts_of<'a>(alloc: Global, given: &'a [String]) -> Result<Vec<&'a str>, Allo
 fn answer<R: Files + Terminals + AllocGlobal + Input + Print + Eprint + Threads + Wait + Sync>(
     rt: &R,
     words: &[&str],
+    built: &Built<'_>,
 ) -> u8
     ensures { IsStatus result }
 {
@@ -72,10 +79,10 @@ fn answer<R: Files + Terminals + AllocGlobal + Input + Print + Eprint + Threads 
                 if words.len() < 2 {
                     show_usage(rt);
                 }
-                refuse(rt, &fault, given_value(rt.alloc(), words, &fault))
+                refuse(rt, &fault, given_value(rt.alloc(), words, &fault), built)
             }
         },
-        Err(fault) => refuse(rt, &fault, given_value(rt.alloc(), words, &fault)),
+        Err(fault) => refuse(rt, &fault, given_value(rt.alloc(), words, &fault), built),
     }
 }
 
@@ -107,13 +114,25 @@ fn finish_several<R: Files + Terminals + AllocGlobal + Input + Print + Eprint>(
             if rt.writes_terminal() {
                 return refuse_terminal(rt);
             }
-            let bundle = join_files(rt, *faulty, header, generals, logs);
-            end_with(rt, deliver_bundle(&mut io::writer(rt), bundle))
+            match join_files(rt, *faulty, header, generals, logs) {
+                Ok(bundle) => {
+                    let mut output = io::writer(rt);
+                    let mut writer = WatchedWriter::new(&mut output);
+                    let end = deliver_bundle(&mut writer, Ok(bundle));
+                    end_written(rt, end, writer.failure)
+                }
+                Err(failure) => fail_with(rt, &failure),
+            }
         }
-        Several::Answer { evidence, log } => {
-            let output = answer_files(rt, evidence, log);
-            end_with(rt, deliver(&mut io::writer(rt), output))
-        }
+        Several::Answer { evidence, log } => match answer_files(rt, evidence, log) {
+            Ok(answer) => {
+                let mut output = io::writer(rt);
+                let mut writer = WatchedWriter::new(&mut output);
+                let end = deliver(&mut writer, Ok(answer));
+                end_written(rt, end, writer.failure)
+            }
+            Err(failure) => fail_with(rt, &failure),
+        },
     }
 }
 
@@ -139,16 +158,16 @@ fn finish<R: Files + Terminals + AllocGlobal + Input + Print + Eprint + Threads 
         }
     ) {
         let mut name = file.unwrap_or("").as_bytes();
-        return finish_over(rt, job, &mut name, false);
+        return finish_over(rt, job, None, &mut name, false);
     }
     match source_of(file) {
         Source::Standard => {
             tell_waiting(rt);
-            finish_over(rt, job, &mut rt.reader(), prints_runs)
+            finish_over(rt, job, None, &mut rt.reader(), prints_runs)
         }
         Source::Named(name) => match File::open(rt, name) {
-            Ok(mut file) => finish_over(rt, job, &mut file, prints_runs),
-            Err(_) => end_with(rt, JobEnd::Failed(JobFault::Open)),
+            Ok(mut file) => finish_over(rt, job, Some(name), &mut file, prints_runs),
+            Err(error) => finish_unopened(rt, job, name, error),
         },
     }
 }
@@ -168,53 +187,74 @@ fn writes_bytes(job: &Job) -> bool
     }
 }
 
-/// Does a job from a reader to standard output, and returns the exit status of its end.
+/// Does a job from a reader to standard output, and returns the exit status of its end. The reader's file has this name,
+/// if it has one.
 fn finish_over<R: AllocGlobal + Print + Eprint + Threads + Wait + Sync, S: Read>(
     rt: &R,
     job: &Job,
+    name: Option<&str>,
     reader: &mut S,
     prints_runs: bool,
 ) -> u8
     requires { IsInRange job.now }
     ensures { (end : JobEnd) × (result ≡ status_of end) }
 {
-    let mut writer = io::writer(rt);
+    let mut output = io::writer(rt);
+    let mut reader = WatchedReader::new(reader);
+    let mut writer = WatchedWriter::new(&mut output);
     let end = if prints_runs {
-        do_and_name(rt, job, reader, &mut writer)
+        do_and_name(rt, job, &mut reader, &mut writer)
     } else {
-        do_job(rt, rt.alloc(), *job, reader, &mut writer)
+        do_job(rt, rt.alloc(), *job, name, &mut reader, &mut writer)
     };
-    end_with(rt, end)
+    let seen = Seen {
+        file: name.unwrap_or(STANDARD_INPUT),
+        front: reader.front.as_slice(),
+        read: reader.failure,
+        write: writer.failure,
+    };
+    finish_seen(rt, job, name, end, &seen)
 }
 
-/// Writes the line of a job's fault to standard error, if the job failed, and returns the exit status of its end.
-fn end_with<R: Eprint>(rt: &R, end: JobEnd) -> u8
-    ensures { result ≡ status_of end }
-{
-    if let Some(fault) = end.fault() {
-        let _ = eprintln!(rt; "{fault}");
+/// Writes the help, or the version with what the program was built of behind it, to standard output.
+fn show<R: Print>(rt: &R, text: &clap::Error, built: &Built<'_>) -> io::Result<()> {
+    if text.kind() == ErrorKind::DisplayVersion {
+        print!(rt;
+            "{text}commit {}, kit {}, sources {}\n",
+            built.commit, built.kit, built.sources
+        )
+    } else {
+        print!(rt; "{text}")
     }
-    end.status()
 }
 
 /// Answers words that ask for no job, and returns the exit status. Help and the version go to standard output. A line that
-/// says what is wrong with the words goes to standard error. The value is that of the option which is bad.
-fn refuse<R: AllocGlobal + Print + Eprint>(rt: &R, fault: &WordsFault, value: Option<String>) -> u8
+/// says what is wrong with the words goes to standard error. The value is that of the option which is bad. What the
+/// program was built of stands behind the version.
+fn refuse<R: AllocGlobal + Print + Eprint>(
+    rt: &R,
+    fault: &WordsFault,
+    value: Option<String>,
+    built: &Built<'_>,
+) -> u8
     ensures by_fault { Refuses fault.now result }
     ensures status { IsStatus result }
 {
     match fault {
-        WordsFault::Memory => end_with(rt, JobEnd::Failed(JobFault::Memory)),
-        WordsFault::Words(text) if !text.use_stderr() => match print!(rt; "{text}") {
-            Ok(()) => end_with(rt, JobEnd::Done),
-            Err(_) => end_with(rt, JobEnd::Failed(JobFault::Write)),
+        WordsFault::Memory => end_with(rt, JobEnd::Failed(JobFault::Memory), None),
+        WordsFault::Words(text) if !text.use_stderr() => match show(rt, text, built) {
+            Ok(()) => end_with(rt, JobEnd::Done, None),
+            Err(error) => {
+                let detail = Detail::of_write(Some(error));
+                end_with(rt, JobEnd::Failed(JobFault::Write), Some(detail))
+            }
         },
         _ => match fault_line(rt.alloc(), fault, value) {
             Ok(line) => {
                 let _ = eprintln!(rt; "{line}");
                 WORDS_STATUS
             }
-            Err(_) => end_with(rt, JobEnd::Failed(JobFault::Memory)),
+            Err(_) => end_with(rt, JobEnd::Failed(JobFault::Memory), None),
         },
     }
 }

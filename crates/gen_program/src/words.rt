@@ -6,7 +6,7 @@ ghost use Rattle.gen_jobs.specs.Ranges.{IsInRange};
 ghost use Rattle.gen_program.specs.CommandLine.{tool};
 ghost use Rattle.gen_program.specs.Jobs.{asked_of, faulty_asked, is_set, job_against, job_named, job_reading, job_showing, HasSlot, number_between, version_asked, runs_asked};
 ghost use Rattle.gen_program.specs.Commands.{Gives, HasSubcommand, choices_in};
-ghost use Rattle.gen_program.specs.Tool.{asked, is_missing, refusal, takes_runs, Asks, IsFaultOf};
+ghost use Rattle.gen_program.specs.Tool.{asked, is_missing, refusal, takes_runs, takes_slot, Asks, IsFaultOf};
 ghost use Rattle.gen_program.specs.declared.words.WordsFault.TheVariants.{Memory};
 
 use crate::choices::Choices;
@@ -229,7 +229,8 @@ fn choices_of(alloc: Global, given: &GivenCommand<'_>) -> Result<Choices, AllocE
 }
 
 /// Returns the job of a command that shows, prepares or tells: `evidence` or `show`, if the runs that are asked for are
-/// known, `root`, `header`, if its version is known, or one that tells what its name says; none for any other name.
+/// known, `root`, `header` or `plan`, if its version is known, or one that tells what its name says; none for any other
+/// name.
 #[tactic(auto, unfolding(crate::specs::Jobs::job_showing))]
 fn job_showing(name: &str, choices: &Choices) -> Option<Job>
     requires { HasSlot choices.now }
@@ -249,6 +250,9 @@ fn job_showing(name: &str, choices: &Choices) -> Option<Job>
             height: choices.height,
         }),
         "header" => Some(Job::Header {
+            version: choices.version?,
+        }),
+        "plan" => Some(Job::Plan {
             version: choices.version?,
         }),
         "explain" => Some(Job::Tell {
@@ -330,6 +334,13 @@ fn lacks_runs(name: &str, choices: &Choices) -> bool
     matches!(name, "audit" | "draw" | "accuse" | "evidence" | "show") && choices.runs.is_none()
 }
 
+/// Returns whether a command takes a slot that is not known.
+fn lacks_slot(name: &str, choices: &Choices) -> bool
+    ensures { result ≡ (takes_slot name.now && is_missing choices.now.version) }
+{
+    matches!(name, "header" | "plan") && choices.version.is_none()
+}
+
 /// Returns why a command has no job: the first of its numbers that is missing or out of its range; or that the runs that
 /// are asked for are not known, or else the generals; or else that there is no such command.
 fn refusal_of(
@@ -353,7 +364,7 @@ fn refusal_of(
         WordsFault::BadWorkers
     } else if name == "accuse" && number_between(general, 0, LAST_GENERAL).is_none() {
         WordsFault::BadGeneral
-    } else if name == "header" && choices.version.is_none() {
+    } else if lacks_slot(name, choices) {
         WordsFault::BadSlot
     } else if lacks_runs(name, choices) {
         WordsFault::BadRun

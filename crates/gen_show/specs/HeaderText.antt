@@ -9,6 +9,7 @@ use Rattle.gen_net.specs.Header.{RunHeader, run_id_of}
 use Rattle.gen_net.specs.Version.{slot_in, version_one, version_two}
 use Rattle.gen_net.specs.declared.version.Version.{Version}
 use Rattle.gen_net.specs.declared.version.Version.TheVariants.{One, Two}
+use Rattle.gen_plan.specs.EqualRoots.{equal_roots}
 
 -- the number of a version
 abbrev pub version_number : Version → ℕ
@@ -42,8 +43,16 @@ abbrev pub root_lines : ℕ → List (List ℕ) → List ℕ
 root_lines general [] = []
 root_lines general (root ∷ roots) = root_line general root ++ root_lines (general + 1) roots
 
--- the lines of a header behind a format's name: format, run id, numbers, edges and roots
+-- the line of two generals with the same root, and the lines of such pairs
+unfoldable pub equal_roots_line : ℕ × ℕ → List ℕ
+equal_roots_line pair = codes "equal roots " ++ decimal pair.0 ++ codes " " ++ decimal pair.1 ++ codes "\n"
+
+abbrev pub equal_roots_lines : List (ℕ × ℕ) → List ℕ
+equal_roots_lines pairs = flat_map equal_roots_line pairs
+
+-- the lines of a header behind a format's name: format, run id, numbers, edges, roots, and pairs of equal
+-- roots
 unfoldable pub header_lines : List ℕ → RunHeader → List ℕ
 header_lines name h =
     format_lines name h ++ number_lines h.network ++ flat_map edge_line h.network.edges
-    ++ root_lines 0 h.roots
+    ++ root_lines 0 h.roots ++ equal_roots_lines (equal_roots h)

@@ -47,6 +47,19 @@ each_explained rows (name ∷ names) = option_and_then
     (λ row. option_map (λ text. explained_row row ++ text) (each_explained rows names)) (row_named rows name)
 
 -- the row of a name, or else those of the names in its fields, if each is one
-unfoldable pub explained : List Row → List ℕ → Option (List ℕ)
-explained rows name =
+unfoldable pub explained_name : List Row → List ℕ → Option (List ℕ)
+explained_name rows name =
     option_map_or (λ row. Some (explained_row row)) (row_named rows name) (each_explained rows (fields name))
+
+-- the name of a row, a line of its own
+abbrev pub name_line : Row → List ℕ
+name_line row = row.name ++ codes "\n"
+
+-- the names of rows, a line each
+unfoldable pub names_listed : List Row → List ℕ
+names_listed rows = flat_map name_line rows
+
+-- what a name means; the empty name asks for the names of all rows
+unfoldable pub explained : List Row → List ℕ → Option (List ℕ)
+explained rows [] = Some (names_listed rows)
+explained rows (letter ∷ more) = explained_name rows (letter ∷ more)

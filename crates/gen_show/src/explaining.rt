@@ -1,31 +1,13 @@
 //! What names mean.
 ghost use Rattle.std.specs.Prelude.{◌≡◌, ◌++◌, OnOk, IfOk, map, option_map};
-ghost use Rattle.gen_show.specs.Rows.{sentence_by};
 ghost use Rattle.gen_show.specs.Shown.{row_shown};
 ghost use Rattle.gen_show.specs.Table.{words};
-ghost use Rattle.gen_show.specs.Worded.{explained_row, each_explained, explained};
+ghost use Rattle.gen_show.specs.Worded.{explained_row, each_explained, explained_name, name_line, names_listed, explained};
 
 use crate::rows::{Row, all_rows, row_named};
 use crate::wording::push_indented;
 use gen_types::split_fields;
 use std::alloc::{AllocError, Global};
-
-/// Returns the sentence of a name: that of the first row of the table with this name, and None if and only if no row
-/// has it.
-///
-/// # Errors
-///
-/// `AllocError` if memory is refused.
-#[tactic(auto, unfolding(crate::specs::Rows::sentence_by))]
-pub fn sentence_of(alloc: Global, name: &[u8]) -> Result<Option<&'static [u8]>, AllocError>
-    ensures { IfOk result (λ r. option_map (λ t. t.now) r ≡ sentence_by words name.now) }
-{
-    let rows = all_rows(alloc)?;
-    match row_named(&rows, name) {
-        Some(row) => Ok(Some(row.sentence)),
-        None => Ok(None),
-    }
-}
 
 /// Appends the form of a row and its sentence.
 #[tactic(auto, unfolding(crate::specs::Worded::explained_row))]
@@ -55,9 +37,48 @@ fn explain_each(alloc: Global, rows: &[Row], names: &[&[u8]]) -> Result<Option<V
     Ok(Some(out))
 }
 
+/// Returns what a name means, or several that are parted by one space, and None if and only if one of them is no name.
+#[tactic(auto, unfolding(crate::specs::Worded::explained_name))]
+fn explain_name(alloc: Global, rows: &[Row], name: &[u8]) -> Result<Option<Vec<u8>>, AllocError>
+    ensures { IfOk result (λ r. option_map (λ v. v.items) r
+        ≡ explained_name (map row_shown rows.now) name.now) }
+{
+    match row_named(rows, name) {
+        Some(row) => {
+            let mut out = Vec::new(alloc);
+            push_row(&mut out, row)?;
+            Ok(Some(out))
+        }
+        None => {
+            let names = split_fields(alloc, name)?;
+            explain_each(alloc, rows, &names)
+        }
+    }
+}
+
+/// Appends the name of a row, in a line of its own.
+fn push_name(out: &mut Vec<u8>, row: &Row) -> Result<(), AllocError>
+    ensures { OnOk result (out.new.items ≡ out.old.items ++ name_line (row_shown row.now)) }
+{
+    out.extend_from_slice(row.name)?;
+    out.extend_from_slice(b"\n")
+}
+
+/// Returns the names of rows, a line each, in the order of the rows.
+#[tactic(auto, unfolding(crate::specs::Worded::names_listed))]
+fn list_names(alloc: Global, rows: &[Row]) -> Result<Vec<u8>, AllocError>
+    ensures { IfOk result (λ v. v.items ≡ names_listed (map row_shown rows.now)) }
+{
+    let mut out = Vec::new(alloc);
+    for row in rows {
+        push_name(&mut out, row)?;
+    }
+    Ok(out)
+}
+
 /// Returns what a name means, or several that are parted by one space: for each the form of its line, and its sentence
 /// in a line of its own behind two spaces. The answer is None if and only if one of them is no name. So `N8` is
-/// explained, and `P9 S3` by the rows of both.
+/// explained, and `P9 S3` by the rows of both. The empty name asks for the names of all rows, a line each.
 ///
 /// # Errors
 ///
@@ -67,15 +88,8 @@ pub fn explain(alloc: Global, name: &[u8]) -> Result<Option<Vec<u8>>, AllocError
     ensures { IfOk result (λ r. option_map (λ v. v.items) r ≡ explained words name.now) }
 {
     let rows = all_rows(alloc)?;
-    match row_named(&rows, name) {
-        Some(row) => {
-            let mut out = Vec::new(alloc);
-            push_row(&mut out, row)?;
-            Ok(Some(out))
-        }
-        None => {
-            let names = split_fields(alloc, name)?;
-            explain_each(alloc, &rows, &names)
-        }
+    match name {
+        [] => Ok(Some(list_names(alloc, &rows)?)),
+        [_letter, ..] => explain_name(alloc, &rows, name),
     }
 }

@@ -1,9 +1,10 @@
 //! Headers as lines.
 ghost use Rattle.std.specs.Prelude.{◌≡◌, ◌++◌, OnOk, string_bytes};
 ghost use Rattle.std.specs.List.{flat_map};
-ghost use Rattle.gen_show.specs.HeaderText.{edge_line, format_lines, header_lines, number_lines, root_lines, version_number};
+ghost use Rattle.gen_show.specs.HeaderText.{edge_line, equal_roots_line, equal_roots_lines, format_lines, header_lines, number_lines, root_lines, version_number};
 
 use gen_net::{Header, Net, VERSION_ONE, VERSION_TWO, Version};
+use gen_plan::equal_roots;
 use gen_types::GeneralNo;
 use std::alloc::{AllocError, Global};
 
@@ -79,6 +80,35 @@ fn push_roots(alloc: Global, out: &mut String, roots: &[[u8; 32]]) -> Result<(),
     Ok(())
 }
 
+/// Appends the line of two generals that have the same root.
+#[tactic(auto, unfolding(crate::specs::HeaderText::equal_roots_line))]
+fn push_pair(out: &mut String, pair: &(GeneralNo, GeneralNo)) -> Result<(), AllocError>
+    ensures { OnOk result
+        (string_bytes out.new ≡ string_bytes out.old ++ equal_roots_line pair.now) }
+{
+    let first = pair.0.get();
+    let second = pair.1.get();
+    write!(out, "equal roots {first} {second}\n")
+}
+
+/// Appends a line for each of these pairs of generals that have the same root.
+///
+/// # Errors
+///
+/// `AllocError` where memory is refused.
+pub fn push_equal_roots(
+    out: &mut String,
+    pairs: &[(GeneralNo, GeneralNo)],
+) -> Result<(), AllocError>
+    ensures { OnOk result
+        (string_bytes out.new ≡ string_bytes out.old ++ equal_roots_lines pairs.now) }
+{
+    for pair in pairs {
+        push_pair(out, pair)?;
+    }
+    Ok(())
+}
+
 /// Appends the lines of a header behind the name of a format.
 #[tactic(auto, unfolding(crate::specs::HeaderText::header_lines))]
 pub fn push_header(
@@ -94,5 +124,7 @@ pub fn push_header(
     push_format(alloc, out, name, header)?;
     push_numbers(out, net)?;
     push_edges(out, net.edges())?;
-    push_roots(alloc, out, header.roots())
+    push_roots(alloc, out, header.roots())?;
+    let pairs = equal_roots(alloc, header)?;
+    push_equal_roots(out, pairs.as_slice())
 }

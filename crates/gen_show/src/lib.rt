@@ -6,7 +6,7 @@
 //! The crate also offers the parts that another form of the same facts needs: the names of faults, and where the parts
 //! of a file stand.
 //!
-//! `explain`, `sentence_of` and `with_words` say in sentences what the lines and the codes mean that the program prints.
+//! `explain` and `with_words` say in sentences what the lines and the codes mean that the program prints.
 //! Their table has a row for each fault, finding, kind of conviction, verdict and exit status, and for each line of a
 //! verdict's text. A row has a name, the form of a line, and a sentence. A capital letter that is a field of the form
 //! stands for any field of a line, and each such letter in the sentence stands for the same field. So
@@ -41,13 +41,14 @@ mod words;
 pub use bundles::{EXHIBIT_FRONT, bundle_front_length, exhibit_bytes};
 pub use campaigns::CAMPAIGN_FRONT;
 pub use evidence::claim_log_at;
-pub use explaining::{explain, sentence_of};
+pub use explaining::explain;
 pub use faults::{push_header_fault, push_log_fault};
 pub use file_faults::{push_campaign_fault, push_evidence_fault};
-pub use headers::version_number;
+pub use headers::{push_equal_roots, version_number};
 pub use kinds::FileKind;
 pub use logs::LOG_FRONT;
 pub use marks::{BUNDLE_MARKS, EVIDENCE_MARKS, file_kind};
 pub use showing::{Shown, front_length, show};
 pub use table::WORDS;
 pub use wording::with_words;
+pub use words::push_members;

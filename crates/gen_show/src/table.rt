@@ -10,6 +10,7 @@ general G decides V|general G decides V|By the logs, general G decided order V.\
 across|convicted G by K1 across I J|The logs of runs I and J, counted from 0, hold two different texts under one leaf, signed with keys of general G.\n\
 convicted|convicted G by NAMES|The logs hold a contradiction that is signed with keys of general G.\n\
 end|end|The text on this run ends here.\n\
+equal roots A B|equal roots A B|Generals A and B have the same root: whoever has its keys is counted twice, and two texts that they sign under one leaf give the keys away.\n\
 campaign N|campaign N|The text has the verdicts on N runs, counted from 0.\n\
 end campaign|end campaign|The text on the campaign ends here.\n\
 general G set S decides V|general G set S decides V|In this scenario, general G accepts the orders S and decides order V.\n\
@@ -33,8 +34,9 @@ N6|N6 general G|In the log of general G, the signature of the head does not veri
 N7|N7 general G entry P|With entry P, counted from 0, the log of general G first begins no log that a follower of the algorithm could keep.\n\
 N8|N8 from A to B round L order V|Only one of the logs of generals A and B has the message of order V that A sent B in round L, or they have it with different paths.\n\
 N9|N9 from A to B round L order V|What general B received with order V in round L from general A, which is held for faulty, derives from nothing that the rest sent the faulty.\n\
-N10|N10 pair A B|No walk of the bundle joins generals A and B inside the rest by at most as many edges as the diameter, and no lesser pair is so.\n\
+N10|N10 pair A B|No walk of the bundle joins generals A and B by few enough edges of the rest, and no lesser pair is so; in a bundle without walks A and B may be joined.\n\
 N11|N11|Nobody is of the rest, since all generals are held for faulty, and nothing else is found.\n\
+G2|fault G2 generals A B|Generals A and B have the same root, and no lesser pair has: whoever has its keys is counted twice.\n\
 fault|fault NAMES|The input has a fault, the first in the order in which it is read.\n\
 P1|P1|The text ends before the line end and its line feed.\n\
 P2|P2|Another line than may stand here, or another number of fields; in a campaign also a text without a seed or without a slot.\n\
@@ -47,7 +49,7 @@ P8|P8|The general of a script is none of the network, or does not come after the
 P9|P9|A line of a script has a fault, which follows.\n\
 P10|P10|Bytes are left over behind the line feed of the last line end.\n\
 P11|P11|A line has more than 600,000 bytes.\n\
-P12|P12|A byte of a line is none of 32 to 126.\n\
+P12|P12|A byte of a line is none of 32 to 126. A line behind the fault says what the file is, if its first bytes tell.\n\
 P13|P13|The slot is above 3.\n\
 P14|P14|The number of runs is not 1 to 4.\n\
 P15|P15|The generals or the seed are other than those of the first text of the campaign, or the slot is not greater than that of the text before.\n\
@@ -66,12 +68,12 @@ H6|H6|There are not 2 to 15 orders.\n\
 H7|H7|The choice is not 0 or 1.\n\
 H8|H8|There is not one root for each general.\n\
 H9|H9|The bytes end before the header does.\n\
-H10|H10|The first byte of the header is no version, or is not the version of the mark.\n\
+H10|H10|The first byte of the header is no version, or is not the version of the mark. A line behind the fault says what the file is, if its first bytes tell.\n\
 H11|H11|The slot is above 3.\n\
 G1|G1|The input is no seed, since it has not 32 bytes.\n\
 R1|R1|The input is not of the runs that --run names, in their order.\n\
 B1|B1|The input ends before the bundle does.\n\
-B2|B2|The first four bytes are neither SMB1 nor SMB2; in a campaign, they are not SMB2.\n\
+B2|B2|The first four bytes are neither SMB1 nor SMB2; in a campaign, they are not SMB2. A line behind the fault says what the file is, if its first bytes tell.\n\
 B3|B3|The header of the bundle has a fault, which follows.\n\
 B4|B4|A general is held for faulty that is none of the network.\n\
 B5|B5|There are more than 120 walks, or a walk has not 2 to 16 generals.\n\
@@ -85,7 +87,7 @@ M3|M3|The bundle of a run has a fault, which follows; runs are counted from 0.\n
 M4|M4|A run has another number of generals or other roots than the first, a slot below one before it, or the header of one before it.\n\
 M5|M5|Bytes are left over behind the last bundle.\n\
 V1|V1|The input ends before the evidence does.\n\
-V2|V2|The first four bytes are neither SME1 nor SME2.\n\
+V2|V2|The first four bytes are neither SME1 nor SME2. A line behind the fault says what the file is, if its first bytes tell.\n\
 V3|V3|The header of the evidence, or the second header of kind 05, has a fault, which follows.\n\
 V4|V4|The accused is none of the network, the kind is none, or a text has a first byte, an order, a length or a path that it cannot have.\n\
 V5|V5|Bytes are left over behind the evidence.\n\
@@ -109,6 +111,134 @@ F5|F5|Bytes are left over behind the frame.\n\
 F6|F6|The frame is of another run.\n\
 F7|F7|The frame is of another round.\n\
 F8|F8|The frame has another sender or another receiver.\n\
+plan holds|plan holds|Whichever generals are faulty, at most as many as planned, any two others are joined through others by at most as many edges as planned.\n\
+plan fails|plan fails|Generals can be faulty, at most as many as planned, so that two others are not joined through others by at most as many edges as planned.\n\
+without S|without S|Without the generals S, where a hyphen is nobody, two others are not joined by so few edges, and no set that comes first is so.\n\
+pair A B|pair A B|Generals A and B are the least two that are not joined by so few edges.\n\
+least diameter D|least diameter D|With the planned number of traitors, D is the least diameter with which the plan holds; none says that it holds with no diameter.\n\
+most traitors M|most traitors M|With the planned diameter, M is the greatest number of traitors with which the plan holds; none says that it fails even with 0.\n\
+rounds R|rounds R|The run has R rounds.\n\
+longest frame B|longest frame B|The bound for a frame of a general that follows the algorithm is B bytes.\n\
+longest log B|longest log B|The bound for the log of a general that follows the algorithm is B bytes.\n\
+bytes of a run B|bytes of a run B|If each general follows the algorithm, all frames of the run together have B bytes.\n\
+format F|format F version E slot U|The format of the file is F, of version E, and its run has the slot U.\n\
+format campaign|format campaign version E runs K|The file is a campaign of version E, with K runs.\n\
+generals N|generals N|The network has N generals, which are numbered from 0.\n\
+traitors M|traitors M|The run is planned for at most M generals that depart from the algorithm.\n\
+diameter D|diameter D|The run is planned so that any two of the rest are joined by at most D edges through others of the rest.\n\
+orders Q|orders Q|The network has Q orders, which are numbered from 0.\n\
+choice C|choice C|The rule by which a lieutenant decides one of several orders has the number C.\n\
+edge A B|edge A B|Generals A and B exchange messages.\n\
+root G R|root G R|The keys of general G have the root R.\n\
+faulty S|faulty S|The list of those that are held for faulty is S, where a hyphen is the empty list.\n\
+walk W|walk W|The generals of a walk, each joined to the next by an edge, are W.\n\
+log of G|log of G byte P length L|The log that is shown for general G begins at byte P of the file, and has L bytes.\n\
+unreadable|unreadable of G fault NAMES|The log that is shown for general G does not read: its fault follows.\n\
+says of G|says of G run R entries K|The log that is shown for general G says that it is of the run with the id R, and has K entries.\n\
+entry start|entry I of G byte P start general A own V|The log that is shown for general G begins with entry I, at byte P: it is that of general A with the own order V, where a hyphen is none.\n\
+entry sign|entry I of G byte P sign round R order V path W|Entry I of the log, at byte P, says that general G signed the statement of order V with the path W in round R.\n\
+entry send|entry I of G byte P send from A to B round R order V path W|Entry I of the log of general G, at byte P, says that general A sent general B the message of order V with the path W in round R.\n\
+entry recv|entry I of G byte P recv from A to B round R order V path W|Entry I of the log of general G, at byte P, says that general B received the message of order V with the path W from general A in round R.\n\
+entry decide|entry I of G byte P decide set S order V|Entry I of the log, at byte P, says that general G accepted the orders S and decided order V.\n\
+head of G|head of G byte P|The signature of the head of the log that is shown for general G begins at byte P.\n\
+place I|place I byte P|The bundle of run I, counted from 0, begins at byte P.\n\
+accused G|accused G root R|The evidence accuses general G, whose keys have the root R.\n\
+kind 1|kind 1 two texts under one leaf|Two different texts are signed under one leaf.\n\
+kind 2|kind 2 two orders of the commander|Two orders of the commander are signed.\n\
+kind 3|kind 3 a log without a statement that was signed|A sealed log has no SIGN of a statement that is signed.\n\
+kind 4|kind 4 a log that departs from the algorithm|A sealed log departs from the algorithm.\n\
+kind 5|kind 5 two texts under one leaf in two runs|Two different texts are signed under one leaf, in two runs that use the same leaves.\n\
+text statement|text F statement round R order V path W|The F text is the statement of order V with the path W, signed in round R.\n\
+text head|text F head of G entries K link L|The F text is the head of a log of general G with K entries and the last link L.\n\
+departs|departs entry I|The log of the accused departs from the algorithm with entry I, counted from 0.\n\
+held for faulty|held for faulty|The judgement holds the general for faulty, and no conviction of this run names the general, which may have followed the algorithm.\n\
+suspected|suspected|One of the findings N1 to N9 names the general, which is neither convicted nor held for faulty: another one may have caused the finding.\n\
+trusted|trusted|Nothing was found against the general, which is not held for faulty: it may still have departed from the algorithm.\n\
+accused|accused|The general that the evidence accuses.\n\
+asked|asked|What was asked for beside the input: the list of those held for faulty, and the runs.\n\
+bundle|bundle|A file with the logs of one run: a header, the list of those held for faulty, walks and logs.\n\
+byte|byte|The byte of the file at which this stands, counted from 0.\n\
+bytes|bytes|How many bytes the input has.\n\
+campaign|campaign|A file with the bundles of several runs, or the text that says which these are.\n\
+campaign text|campaign text|The text that a campaign is run from.\n\
+campaign verdict|campaign verdict|The object of the verdicts on the runs of a campaign.\n\
+choice|choice|The number of the rule by which a lieutenant decides one of several orders.\n\
+claim|claim|What the evidence says of the accused.\n\
+convictions|convictions|The generals against which the logs hold a contradiction, each with its kind.\n\
+decide|decide|The last entry of a log: which orders the general accepted, and which it decided.\n\
+decided|decided|The order that the log says its general decided.\n\
+decisions|decisions|What generals decided.\n\
+diameter|diameter|By how many edges at most any two of the rest are planned to be joined.\n\
+edges|edges|The pairs of generals that exchange messages.\n\
+entries|entries|How many entries the log has.\n\
+entry|entry|The number of an entry in its log, counted from 0.\n\
+equal_roots|equal_roots|The pairs of generals that have the same root.\n\
+evidence|evidence|A file with what is signed against one general, which holds or fails by itself.\n\
+faulty|faulty|The generals that are held for faulty; of decisions those with a script.\n\
+file|file|The format of the file.\n\
+findings|findings|What the audit found, in the order of the names N1 to N11.\n\
+first|first|The first of two generals, runs or texts.\n\
+format|format|Which object this is.\n\
+frame|frame|What one node sends another in a round.\n\
+from|from|The general that sent the message.\n\
+general|general|The number of a general.\n\
+generals|generals|How many generals the network has, or the two that have the same root.\n\
+head|head|The end of a log, which its general signed: how many entries there are, and the last link.\n\
+header|header|What all nodes of a run share: the network and the root of each general.\n\
+id|id|The name of the finding, or of the kind of conviction.\n\
+input|input|What was judged: its name, its length and its SHA-256.\n\
+kind|kind|Which entry, which evidence or which input this is.\n\
+last_link|last_link|The hash of all entries of a log.\n\
+length|length|How many bytes the log has.\n\
+logs|logs|What each log that reads says its general decided, in the order of the file.\n\
+missing|missing|The statement that is signed and that the log has no SIGN of.\n\
+name|name|The name of the file of the input, or null for standard input.\n\
+network|network|The numbers for which the run is planned.\n\
+of|of|The general for which the log is shown.\n\
+order|order|The number of an order, which is a value to agree on.\n\
+orders|orders|How many orders the network has.\n\
+other_run|other_run|The id of the run of the second text.\n\
+own|own|The order with which the commander began, or null.\n\
+path|path|The generals that signed the message, in their order.\n\
+place|place|The place of a run in its campaign, counted from 0.\n\
+recv|recv|An entry for a message that was received.\n\
+root|root|The root of the keys of a general.\n\
+roots|roots|The roots of the keys of all generals, in the order of their numbers.\n\
+round|round|The number of a round, counted from 1.\n\
+run|run|A run: by its id, or by its place, counted from 0.\n\
+run_version|run_version|The version of the formats that the run has.\n\
+runs|runs|The verdicts on the runs, or how many runs there are.\n\
+scenario text|scenario text|The text that a run is made from, or a header.\n\
+second|second|The second of two generals, runs or texts.\n\
+send|send|An entry for a message that was sent.\n\
+set|set|The orders that the general accepted.\n\
+sha256|sha256|The SHA-256 of the input.\n\
+shown campaign|shown campaign|The object of a file that is a campaign.\n\
+shown campaign end|shown campaign end|The last object of a campaign.\n\
+shown equal roots|shown equal roots|The object of two generals with the same root.\n\
+shown end|shown end|The last object of a bundle, of evidence or of a header.\n\
+shown entry|shown entry|The object of an entry.\n\
+shown fault|shown fault|The object of what does not read.\n\
+shown faulty|shown faulty|The object of the list of those that the file holds for faulty.\n\
+shown head|shown head|The object of the head of a log.\n\
+shown header|shown header|The object of a header.\n\
+shown log|shown log|The object of a log that reads.\n\
+shown run|shown run|The object of a run of a campaign, before that of its header.\n\
+shown walk|shown walk|The object of a walk.\n\
+sign|sign|An entry for a statement that was signed.\n\
+slot|slot|Which of the four runs of one tree of keys this run is.\n\
+start|start|The first entry of a log.\n\
+statement|statement|An order with a path: what a general signs to send it on.\n\
+status|status|What the judgement says of a general: convicted, held for faulty, suspected or trusted; of a fault the exit status.\n\
+statuses|statuses|The status of each general.\n\
+text|text|Whether what is signed is a statement or the head of a log.\n\
+to|to|The general that the message was sent to.\n\
+tool|tool|The version of the program that answered.\n\
+traitors|traitors|How many generals at most are planned to depart from the algorithm.\n\
+unreadable log|unreadable log|The object of a log that does not read.\n\
+verdict|verdict|Whether a run explains the logs: agreed, explained or no.\n\
+version|version|The version of these objects.\n\
+walk|walk|Generals of the rest, each joined to the next by an edge.\n\
 status 0|status 0|The output is whole and is not a no, or a request for help or for the version was answered.\n\
 status 1|status 1|The output is whole and is a no: a verdict, evidence that fails, no evidence against the general, no answer to evidence, a shown file that is not whole, or no such name.\n\
 status 2|status 2|The words of the command line ask for no job.\n\
@@ -119,5 +249,5 @@ status 126|status 126|The script has no proved program and gives no answer witho
 memory|memory|Memory was refused.\n\
 thread|thread|A thread could not be started.\n\
 open failed|open failed|The file could not be opened.\n\
-read failed|read failed|A read of the input failed, or the input has more bytes or takes more reads than are allowed.\n\
+read failed|read failed|A read of the input failed, or the input has more bytes than are allowed.\n\
 write failed|write failed|A write of the output failed.";

@@ -1,7 +1,7 @@
 //! What a desk refuses, and what comes back.
 use crate::filing::{claimed_once, desk_without_slips, give_up_all, header_of, logs_of, report_of};
 use crate::texts::PAIR;
-use gen_desk::{Desk, DeskFault, Slip, Ticket};
+use gen_desk::{Desk, DeskFault, DeskState, Slip, Ticket};
 use gen_local::{LocalReport, local_report};
 use gen_log::SealedLog;
 use gen_types::GeneralNo;
@@ -59,6 +59,28 @@ fn refuses_slips<R: Wait>(rt: &R, alloc: Global, desk: &Desk) -> Result<bool, Fa
 fn slips_of_another_desk(rt: HostRuntime) -> Result<(), Fail> {
     let (desk, _ticket) = claimed_once(&rt, rt.alloc())?;
     assert!(rt; refuses_slips(&rt, rt.alloc(), &desk)?);
+    Ok(())
+}
+
+/// Files the last log of a pair with a state, by the slip of a desk of one place, and claims: the place that
+/// is claimed, if there is one.
+fn place_filed(alloc: Global, state: &mut DeskState) -> Result<Option<usize>, Fail> {
+    let log = last_log(alloc)?;
+    let (_desk, mut slips) = Desk::new(alloc, 1)?;
+    if let Some(slip) = slips.pop() {
+        if let Err((slip, _log, _fault)) = state.file_in(slip, log) {
+            let _place = slip.give_up();
+        }
+    }
+    give_up_all(slips);
+    Ok(state.claim_in()?.map(|ticket| ticket.place()))
+}
+
+#[test]
+fn a_log_is_filed_with_a_state(rt: HostRuntime) -> Result<(), Fail> {
+    let mut state = DeskState::new(rt.alloc(), 1)?;
+    assert!(rt; place_filed(rt.alloc(), &mut state)? == Some(0));
+    assert!(rt; place_filed(rt.alloc(), &mut state)? == None);
     Ok(())
 }
 

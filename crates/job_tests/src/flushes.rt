@@ -42,7 +42,7 @@ fn minds_loss<R: Threads + Wait + Sync>(
 {
     let mut reader = input;
     let mut writer = Lost { taken: 0, kind };
-    let end = do_job(rt, alloc, *job, &mut reader, &mut writer);
+    let end = do_job(rt, alloc, *job, None, &mut reader, &mut writer);
     end == JobEnd::Failed(JobFault::Write) && writer.taken > 0
 }
 

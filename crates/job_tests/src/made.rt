@@ -25,7 +25,7 @@ pub(crate) fn written<R: Threads + Wait + Sync>(
 {
     let mut reader = input;
     let mut text = Vec::new(alloc);
-    match do_job(rt, alloc, job, &mut reader, &mut text) {
+    match do_job(rt, alloc, job, None, &mut reader, &mut text) {
         JobEnd::Done => Ok(text),
         _ => Err("not done".into()),
     }

@@ -3,8 +3,8 @@ ghost use Rattle.std.specs.Prelude.{All, IfOk};
 ghost use Rattle.gen_threads.specs.Edges.{AllHavePasses};
 ghost use Rattle.library_tests.specs.Seats.{MayTakeSeat};
 
-use crate::gates::{FEW, Watch};
-use crate::scenarios::{is_same, line, logs_of_run};
+use crate::gates::{FEW, Meeting, Watch};
+use crate::scenarios::{is_same, line, logs_of_run, pair};
 use gen_log::SealedLog;
 use gen_threads::{Edges, Gate, GeneralEnd, Passes, RunPart, run_general};
 use gen_types::GeneralNo;
@@ -125,6 +125,16 @@ fn end_alike<R: Threads + Wait + Sync, G: Gate + Sync>(
             .zip(logs.as_slice())
             .all(|(end, log)| has_log(end, log)),
     )
+}
+
+/// Generals 0 and 1 each wait, before round 1, until the other is there too.
+#[test]
+fn a_pair_meets_in_threads_of_its_own(rt: HostRuntime) -> Result<(), Fail> {
+    let stage = pair(rt.alloc())?;
+    let scenario = &stage.scenario;
+    let gate = Meeting::new();
+    assert!(rt; end_alike(&rt, rt.alloc(), scenario, &gate)? && gate.has_met());
+    Ok(())
 }
 
 /// General 1 waits for the frame that general 0 puts in round 2, and generals 2 and 3 wait with it.

@@ -1,4 +1,4 @@
-//! How many signatures reports verify, side by side, through one store of verifications. No clause says it.
+//! How many answers a store keeps through which reports on the logs of a run are made. No clause says it.
 use crate::scenarios::scenario_of;
 use gen_chain::VerifyStore;
 use gen_local::{exhibits_of_logs, local_reports};
@@ -12,7 +12,7 @@ const RING: &[u8] = b"\
     traitors 1\ndiameter 4\norders 2\nchoice 0\norder 1\n\
     seed 0000000000000000000000000000000000000000000000000000000000000000\nscript 3\nend\n";
 
-/// Returns how many verifications a new store keeps, by which the logs of a run are reported on side by side;
+/// Returns how many answers a new store keeps, by which the logs of a run are reported on side by side;
 /// None if not each log has a report.
 fn runs_of(alloc: Global, scenario: &Scenario) -> Result<Option<u64>, Fail> {
     let exhibits = exhibits_of_logs(alloc, run_world(alloc, scenario)?.into_logs())?;

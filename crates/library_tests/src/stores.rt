@@ -1,4 +1,4 @@
-//! How many verifications a store of verifications makes. No clause says it: each clause gives a bound.
+//! How many answers a store of verifications keeps. No clause says it: each clause gives a bound.
 ghost use Rattle.gen_chain.specs.Store.{Serves};
 
 use crate::made::{chain_of, chain_of_one, header_of, trees_of};
@@ -34,8 +34,8 @@ fn with_other_byte(alloc: Global, chain: &SignedChain, at: usize) -> Result<Sign
     }
 }
 
-/// Returns whether a new store sees another byte at this place with so many verifications, of which none is
-/// made again.
+/// Returns whether a new store sees another byte at this place, and keeps so many answers then, also when it
+/// is asked again.
 fn is_seen(
     alloc: Global,
     header: &Header,
@@ -59,10 +59,10 @@ const FIFTH: usize = 66_055;
 /// The first byte of the ninth signature.
 const NINTH: usize = 132_107;
 
-/// Bytes of the chain of five signers, each with how many verifications see that it is another one.
+/// Bytes of the chain of five signers, each with how many answers a store keeps that saw another one.
 const OF_FIVE: [(usize, u64); 2] = [(FOURTH, 4), (FIFTH, 5)];
 
-/// The same of the chain of nine signers, by how a store verifies: one signature, and then four at a time.
+/// The same of the chain of nine signers: a store keeps answers for four at a time, and then for the last.
 const OF_NINE: [(usize, u64); 3] = [(FOURTH, 4), (FIFTH, 8), (NINTH, 9)];
 
 /// Returns whether each of these bytes is seen.

@@ -1,12 +1,12 @@
 //! Calls of words of the command line, and of whole commands.
 use crate::forms::{Form, done};
-use crate::names::Refused;
-use crate::rows::Row;
-use crate::texts::Answer;
 use clap::error::ErrorKind;
 use gen_jobs::{Job, JobEnd, Telling, job_fault_line};
 use gen_net::Version;
 use gen_program::{Several, WordsFault, read_several, read_words};
+use row_calls::names::Refused;
+use row_calls::rows::Row;
+use row_calls::texts::Answer;
 use std::alloc::Global;
 use std::sync::Wait;
 use std::thread::Threads;
@@ -86,16 +86,20 @@ fn tell_job(job: Job, answer: &mut Answer) {
         Job::Evidence { .. } => answer.word("evidence"),
         Job::Show { .. } => answer.word("show"),
         Job::Root { .. } => answer.word("root"),
-        Job::Header { version } => tell_slot(version, answer),
+        Job::Header { version } => tell_slot("header slot", version, answer),
+        Job::Plan { version } => tell_slot("plan slot", version, answer),
         Job::Tell { what } => answer.word(word_of(what)),
     }
 }
 
-/// Tells the command `header` with the slot.
-fn tell_slot(version: Version, answer: &mut Answer) {
+/// Tells a command with its slot, which stands behind these words.
+fn tell_slot(words: &str, version: Version, answer: &mut Answer) {
     match version {
-        Version::One => answer.word("header slot none"),
-        Version::Two { slot } => answer.field("header slot", slot),
+        Version::One => {
+            answer.word(words);
+            answer.word("none");
+        }
+        Version::Two { slot } => answer.field(words, slot),
     }
 }
 

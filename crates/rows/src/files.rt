@@ -1,8 +1,9 @@
 //! Files of rows.
-use crate::names::{Names, Refused};
-use crate::rows::{Asked, Row};
-use crate::texts::Answer;
-use crate::{commands, frames, judging, preparing, signing, values};
+use crate::commands;
+use row_calls::names::{Names, Refused};
+use row_calls::rows::{Asked, Row};
+use row_calls::running;
+use row_calls::texts::Answer;
 use std::alloc::Global;
 use std::rt::Files;
 use std::sync::Wait;
@@ -166,22 +167,10 @@ fn tell<R: AllocGlobal + Threads + Wait + Sync>(
     answer: &mut Answer,
 ) -> Result<(), Refused> {
     let alloc = rt.alloc();
-    if values::tell(alloc, call, row, answer)? {
-        return Ok(());
-    }
-    if signing::tell(alloc, call, row, answer)? {
-        return Ok(());
-    }
-    if judging::tell(alloc, call, row, answer)? {
-        return Ok(());
-    }
-    if preparing::tell(alloc, call, row, answer)? {
-        return Ok(());
-    }
-    if frames::tell(alloc, call, row, answer)? {
-        return Ok(());
-    }
-    if commands::tell(rt, call, row, answer)? {
+    if row_calls::tell(alloc, call, row, answer)?
+        || running::tell(rt, call, row, answer)?
+        || commands::tell(rt, call, row, answer)?
+    {
         return Ok(());
     }
     tell_under(alloc, call, row, answer)
@@ -195,9 +184,7 @@ fn tell_under(
     answer: &mut Answer,
 ) -> Result<(), Refused> {
     let header = row.header(alloc)?;
-    let is_told = values::tell_under(alloc, call, &header, row, answer)?
-        || signing::tell_under(alloc, call, &header, row, answer)?
-        || judging::tell_under(alloc, call, &header, row, answer)?;
+    let is_told = row_calls::tell_under(alloc, call, &header, row, answer)?;
     if !is_told {
         return Err(Refused);
     }

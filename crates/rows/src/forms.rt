@@ -4,11 +4,11 @@ ghost use Rattle.gen_jobs.specs.Ranges.{IsInRange};
 
 use gen_audit::WorkerCount;
 use gen_jobs::{
-    Asked, AskedRuns, Faulty, Form as Answering, Job, JobEnd, JobFault, Output, accuse,
-    accuse_as_asked, accuse_asked_in_place, accuse_in_place, audit, audit_as_asked,
-    audit_asked_in_place, audit_in_place, campaign, decide, decide_in, deliver, do_job, draw,
+    Asked, AskedRuns, Faulty, Form as Answering, Job, JobEnd, JobFault, Output, accuse_as_asked,
+    accuse_asked_in_place, accuse_in_place, audit_as_asked, audit_asked_in_place,
+    audit_form_in_place, audit_in_place, campaign, decide, decide_in, deliver, do_job,
     draw_as_asked, draw_asked_in_place, draw_in_place, evidence, evidence_as_asked, evidence_in,
-    header, judge, judge_as_asked, root, run, show_as_asked, show_in, tell,
+    header, judge_as_asked, plan, root, run_in_pieces, show_in, tell,
 };
 use gen_types::GeneralNo;
 use std::alloc::Global;
@@ -24,6 +24,26 @@ pub(crate) enum Form {
     Bytes,
     /// By its call over bytes that starts no thread, where there is one.
     InPlace,
+}
+
+/// Returns what the call `run_in_pieces` gives.
+fn run_output<R: Threads + Wait + Sync>(
+    rt: &R,
+    alloc: Global,
+    capacity: u8,
+    input: &[u8],
+) -> Result<Output, JobFault>
+    requires { 0 < capacity }
+{
+    let bundle = run_in_pieces(rt, alloc, capacity, input)?;
+    let mut text = Vec::new(alloc);
+    if bundle.write_to(&mut text).is_err() {
+        return Err(JobFault::Memory);
+    }
+    Ok(Output {
+        text,
+        negative: false,
+    })
 }
 
 /// Returns what the call `campaign` over bytes gives.
@@ -46,7 +66,7 @@ fn campaign_output<R: Threads + Wait + Sync>(
     })
 }
 
-/// Returns what the calls of `accuse` over bytes give, by three workers.
+/// Returns what the call of `accuse` over bytes gives, by three workers.
 fn by_three<R: Threads + Wait + Sync>(
     rt: &R,
     alloc: Global,
@@ -55,17 +75,8 @@ fn by_three<R: Threads + Wait + Sync>(
     input: &[u8],
 ) -> Result<Output, JobFault> {
     let three = WorkerCount::new(3).unwrap_or(WorkerCount::one());
-    match asked {
-        AskedRuns::Any => accuse(rt, alloc, three, general, input),
-        _ => accuse_as_asked(rt, alloc, three, asked, general, input.to_vec(alloc)?),
-    }
+    accuse_as_asked(rt, alloc, three, asked, general, input.to_vec(alloc)?)
 }
-
-/// What is asked of an input of which nothing is asked.
-const NOTHING: Asked = Asked {
-    runs: AskedRuns::Any,
-    faulty: Faulty::Listed,
-};
 
 /// Returns what the calls of `decide` over bytes give.
 fn decided(alloc: Global, form: Answering, input: &[u8]) -> Result<Output, JobFault> {
@@ -75,7 +86,7 @@ fn decided(alloc: Global, form: Answering, input: &[u8]) -> Result<Output, JobFa
     }
 }
 
-/// Returns what the calls of `audit` over bytes give.
+/// Returns what the call of `audit` over bytes gives.
 fn audited<R: Threads + Wait + Sync>(
     rt: &R,
     alloc: Global,
@@ -85,15 +96,11 @@ fn audited<R: Threads + Wait + Sync>(
     strict: bool,
     input: &[u8],
 ) -> Result<Output, JobFault> {
-    if *asked == NOTHING && form == Answering::Text && !strict {
-        audit(rt, alloc, workers, input)
-    } else {
-        let taken = input.to_vec(alloc)?;
-        audit_as_asked(rt, alloc, workers, asked, form, strict, taken)
-    }
+    let taken = input.to_vec(alloc)?;
+    audit_as_asked(rt, alloc, workers, asked, form, strict, None, taken)
 }
 
-/// Returns what the calls of `draw` over bytes give.
+/// Returns what the call of `draw` over bytes gives.
 fn drawn<R: Threads + Wait + Sync>(
     rt: &R,
     alloc: Global,
@@ -101,11 +108,7 @@ fn drawn<R: Threads + Wait + Sync>(
     asked: &Asked,
     input: &[u8],
 ) -> Result<Output, JobFault> {
-    if *asked == NOTHING {
-        draw(rt, alloc, workers, input)
-    } else {
-        draw_as_asked(rt, alloc, workers, asked, input.to_vec(alloc)?)
-    }
+    draw_as_asked(rt, alloc, workers, asked, input.to_vec(alloc)?)
 }
 
 /// Returns what the calls of `evidence` over bytes give.
@@ -124,38 +127,6 @@ fn checked(
     }
 }
 
-/// Returns what the calls of `show` over bytes give.
-fn shown(
-    alloc: Global,
-    asked: AskedRuns,
-    form: Answering,
-    input: &[u8],
-) -> Result<Output, JobFault> {
-    match form {
-        Answering::Text => show_as_asked(alloc, asked, input),
-        Answering::Json => show_in(alloc, form, asked, input),
-    }
-}
-
-/// Returns what the calls of `judge` over bytes give.
-fn judged<R: Threads + Wait + Sync>(
-    rt: &R,
-    alloc: Global,
-    capacity: u8,
-    workers: WorkerCount,
-    form: Answering,
-    strict: bool,
-    input: &[u8],
-) -> Result<Output, JobFault>
-    requires { 0 < capacity }
-{
-    if strict || form == Answering::Json {
-        judge_as_asked(rt, alloc, capacity, workers, form, strict, input)
-    } else {
-        judge(rt, alloc, capacity, workers, input)
-    }
-}
-
 /// Returns what the call of a job over bytes gives; that of `accuse` is by three workers.
 fn by_bytes<R: Threads + Wait + Sync>(
     rt: &R,
@@ -167,13 +138,13 @@ fn by_bytes<R: Threads + Wait + Sync>(
 {
     match job {
         Job::Decide { form } => decided(alloc, form, input),
-        Job::Run { capacity } => run(rt, alloc, capacity, input),
+        Job::Run { capacity } => run_output(rt, alloc, capacity, input),
         Job::Judge {
             capacity,
             workers,
             strict,
             form,
-        } => judged(rt, alloc, capacity, workers, form, strict, input),
+        } => judge_as_asked(rt, alloc, capacity, workers, form, strict, None, input),
         Job::Campaign { capacity } => campaign_output(rt, alloc, capacity, input),
         Job::Audit {
             workers,
@@ -184,9 +155,10 @@ fn by_bytes<R: Threads + Wait + Sync>(
         Job::Draw { workers, asked } => drawn(rt, alloc, workers, &asked, input),
         Job::Accuse { general, asked } => by_three(rt, alloc, general, asked, input),
         Job::Evidence { asked, form } => checked(alloc, asked, form, input),
-        Job::Show { asked, form } => shown(alloc, asked, form, input),
+        Job::Show { asked, form } => show_in(alloc, form, asked, input),
         Job::Root { height } => root(alloc, height, input),
         Job::Header { version } => header(alloc, version, input),
+        Job::Plan { version } => plan(alloc, version, input),
         Job::Tell { what } => tell(alloc, what, input),
     }
 }
@@ -201,8 +173,10 @@ fn audited_in_place<R: Threads + Wait + Sync>(
     strict: bool,
     input: &[u8],
 ) -> Result<Output, JobFault> {
-    if form == Answering::Json || asked.faulty != Faulty::Listed {
+    if asked.faulty != Faulty::Listed {
         audited(rt, alloc, workers, asked, form, strict, input)
+    } else if form == Answering::Json {
+        audit_form_in_place(alloc, form, asked.runs, strict, input)
     } else if strict || asked.runs != AskedRuns::Any {
         audit_asked_in_place(alloc, asked.runs, strict, input)
     } else {
@@ -275,7 +249,7 @@ pub(crate) fn done<R: Threads + Wait + Sync>(
     let mut reader = input;
     let mut written = Vec::new(alloc);
     let end = match form {
-        Form::Engine => do_job(rt, alloc, job, &mut reader, &mut written),
+        Form::Engine => do_job(rt, alloc, job, None, &mut reader, &mut written),
         Form::Bytes => deliver(&mut written, by_bytes(rt, alloc, job, input)),
         Form::InPlace => deliver(&mut written, in_place(rt, alloc, job, input)),
     };

@@ -9,41 +9,12 @@
 //! names, for the trial that refuses memory and threads.
 #![tactic(auto)]
 
-mod again;
-mod again_acting;
-mod again_answers;
-mod again_bundles;
-mod again_campaigns;
-mod again_chains;
-mod again_desks;
-mod again_logs;
-mod again_refuting;
-mod again_scenarios;
-mod again_stores;
 mod commands;
 mod files;
 mod forms;
-mod frames;
-mod judging;
-mod judging_bundles;
-mod judging_evidence;
-mod judging_reports;
-mod judging_texts;
-mod names;
-mod preparing;
-mod rows;
-mod signing;
-mod signing_chains;
-mod signing_keys;
-mod signing_logs;
-mod texts;
-mod values;
-mod values_headers;
-mod values_parts;
-mod values_rounds;
-mod values_scripts;
-mod values_walks;
 
+use gen_program::Built;
+use row_calls::again;
 use std::process::ExitCode;
 use std::rt::{Env, Files};
 use std::sync::Wait;
@@ -81,7 +52,7 @@ fn begin<R: AllocGlobal + Env + Files + Input + Print + Threads + Wait + Sync>(
 
 fn main(rt: HostRuntime) -> ExitCode {
     match begin(&rt) {
-        Ok(true) => ExitCode::from(gen_program::run(&rt)),
+        Ok(true) => ExitCode::from(gen_program::run(&rt, &Built::unknown())),
         Ok(false) => ExitCode::SUCCESS,
         Err(_) => ExitCode::from(FAILED),
     }

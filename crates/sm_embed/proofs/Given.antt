@@ -75,7 +75,7 @@ of_fault F (Err fault) given e f = subst (λ g. IfErr g F) (sym (same_Some given
 pub is_show_fault : (asked : AskedRuns) (input : List ℕ) (f : JobFault) → IsAuditFault input f → IsShowFault asked input f
 is_show_fault asked input faults.Memory h = h
 is_show_fault asked input faults.OtherRun h = absurd h
-is_show_fault asked input faults.Thread h = h
+is_show_fault asked input faults.Thread h = absurd h
 is_show_fault asked input faults.Read h = absurd h
 is_show_fault asked input faults.Write h = absurd h
 is_show_fault asked input faults.Open h = absurd h
@@ -84,3 +84,4 @@ is_show_fault asked input (faults.Campaign f) h = h
 is_show_fault asked input (faults.Evidence f) h = absurd h
 is_show_fault asked input (faults.Log f) h = absurd h
 is_show_fault asked input (faults.Seed f) h = absurd h
+is_show_fault asked input (faults.EqualRoots a b) h = absurd h

@@ -32,6 +32,7 @@ pub(crate) fn line_of_input(alloc: Global, fault: JobFault) -> Option<String>
         | JobFault::Evidence(_)
         | JobFault::Log(_)
         | JobFault::Seed(_)
+        | JobFault::EqualRoots { .. }
         | JobFault::OtherRun => job_fault_line(alloc, fault).ok(),
         JobFault::Memory | JobFault::Thread | JobFault::Open | JobFault::Read | JobFault::Write => {
             None

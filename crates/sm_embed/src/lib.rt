@@ -32,6 +32,7 @@
 
 ghost use Rattle.std.specs.Prelude.{ℕ, ◌≡◌, ◌<◌, ◌≤◌, None};
 ghost use Rattle.gen_prepare.specs.Answering.{IsAnswered};
+ghost use Rattle.gen_net.specs.declared.version.Version.TheVariants.{One};
 ghost use Rattle.gen_jobs.specs.Accusing.{IsAccused};
 ghost use Rattle.gen_jobs.specs.Asking.{IsAccusedOf, IsAuditedAs, IsAuditedIn, IsCheckedIn, IsCheckedOf};
 ghost use Rattle.gen_jobs.specs.Asking.{IsDrawnOf, IsEvidenceFaultOf, IsShowFault};
@@ -40,6 +41,7 @@ ghost use Rattle.gen_jobs.specs.Checking.{IsChecked, IsEvidenceFault};
 ghost use Rattle.gen_jobs.specs.Decide.{IsDecided, IsDecidedIn, IsDecideFault};
 ghost use Rattle.gen_jobs.specs.Drawing.{IsDrawn};
 ghost use Rattle.gen_jobs.specs.Joining.{IsReplyFault};
+ghost use Rattle.gen_jobs.specs.Planning.{IsPlan, IsPlanFault};
 ghost use Rattle.gen_jobs.specs.Showing.{IsShownFault, IsShownIn};
 ghost use Rattle.gen_jobs.specs.Telling.{IsMemory, IsTold};
 ghost use Rattle.gen_jobs.specs.declared.telling.Telling.TheVariants as tellings;
@@ -66,8 +68,9 @@ use crate::runs::tell_runs;
 use gen_jobs::{
     Telling, accuse_asked_in_place, accuse_in_place, audit_asked_in_place, audit_form_in_place,
     audit_in_place, decide, decide_in, draw_asked_in_place, draw_in_place, evidence,
-    evidence_as_asked, evidence_in, show_in, tell,
+    evidence_as_asked, evidence_in, plan, show_in, tell,
 };
+use gen_net::Version;
 use gen_types::GeneralNo;
 use gen_types::limits::MOST_GENERALS;
 use std::alloc::Global;
@@ -312,6 +315,16 @@ pub extern "C" fn sm_explain(alloc: Global, input: &[u8], answer: &mut SmAnswer)
 {
     answer.clear(alloc);
     keep(alloc, tell(alloc, Telling::Name, input), answer).status()
+}
+
+/// Makes the answer of whether the plan of the header in the input holds, as the command `plan` writes it: of a header
+/// alone, the first of a bundle or of a campaign, or the text of a header of version 1. It says no if the plan fails.
+#[unsafe(no_mangle)]
+pub extern "C" fn sm_plan(alloc: Global, input: &[u8], answer: &mut SmAnswer) -> u32
+    ensures { IsMade (IsPlan One input.now) (IsPlanFault One input.now) answer.new.held result }
+{
+    answer.clear(alloc);
+    keep(alloc, plan(alloc, Version::One, input), answer).status()
 }
 
 /// Makes the answer of a text with what each of its lines means behind the line, as the command `words` writes it.

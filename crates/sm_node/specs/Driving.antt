@@ -4,7 +4,8 @@ use Rattle.gen_types.specs.Spelled.{Spells}
 use Rattle.gen_general.specs.Recording.{log_written}
 use Rattle.gen_node.specs.declared.frame_fault.FrameFault.{FrameFault}
 use Rattle.gen_node.specs.Frame.{IsFrame, frame_spelling}
-use Rattle.gen_node.specs.Node.{Node, IsBegun, awaits, decision_of_node, ended, frame_to, handed}
+use Rattle.gen_node.specs.Longest.{IsInBounds}
+use Rattle.gen_node.specs.Node.{Node, IsBegun, awaits, decision_of_node, ended, frame_to, handed, header_at}
 use Rattle.gen_node.specs.Node.{is_awaited, is_over, may_begin, may_end}
 use Rattle.sm_node.specs.declared.held.EndedNode.{EndedNode}
 use Rattle.sm_node.specs.declared.held.NodeHandle.{NodeHandle}
@@ -38,11 +39,13 @@ Ends old new Memory =
 Ends old new Fault = ⊥
 Ends old new Length = ⊥
 
--- a round is open, and the bytes are the frame of this round to a neighbour
+-- a round is open, and the bytes are the frame of this round to a neighbour, which is within the bounds of
+-- frames
 abbrev pub IsFrameTo : ℕ → Option NodeHandle → List ℕ → Type 0
 IsFrameTo to held bytes =
     (n : Node) × IsRunning held n × (awaits n to ≡ true)
     × Spells IsFrame frame_spelling bytes (frame_to n.recorder to)
+    × IsInBounds (header_at n.recorder) (frame_to n.recorder to)
 
 -- the frame of this round to a neighbour is handed out, or its length alone
 abbrev pub Sends : ℕ → Option NodeHandle → List ℕ → List ℕ → ℕ → NodeReply → Type 0

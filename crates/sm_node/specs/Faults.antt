@@ -7,6 +7,9 @@ use Rattle.gen_node.specs.declared.frame_fault.FrameFault.{FrameFault}
 use Rattle.gen_node.specs.FaultNumber.{fault_number}
 use Rattle.sm_node.specs.declared.faults.BytesFault.{BytesFault}
 use Rattle.sm_node.specs.declared.faults.BytesFault.TheVariants.{BadHeader, LeftOver}
+use Rattle.sm_node.specs.declared.faults.MakingFault.{MakingFault}
+use Rattle.sm_node.specs.declared.faults.MakingFault.TheVariants.{Broken, EqualRoots}
+use Rattle.sm_node.specs.declared.faults.SmPair.{SmPair}
 use Rattle.sm_node.specs.declared.faults.StartFault.{StartFault}
 use Rattle.sm_node.specs.declared.faults.StartFault.TheVariants.{Header, NoGeneral, OtherRoot}
 use Rattle.sm_node.specs.declared.faults.GatherFault.{GatherFault}
@@ -16,6 +19,20 @@ use Rattle.sm_node.specs.declared.faults.GatherFault.TheVariants as gathering
 abbrev pub bytes_number : BytesFault → ℕ
 bytes_number (BadHeader f) = header_fault_number f
 bytes_number LeftOver = 12
+
+-- the number of a fault of a header's numbers, edges and roots: that of the header's fault, or 15 for two
+-- generals with the same root
+abbrev pub making_number : MakingFault → ℕ
+making_number (Broken f) = header_fault_number f
+making_number (EqualRoots a b) = 15
+
+-- in place of two generals, where there are none; and the two generals that have the same root
+abbrev pub no_pair : SmPair
+no_pair = record { first = 0; second = 0 }
+
+abbrev pub making_pair : MakingFault → SmPair
+making_pair (Broken f) = no_pair
+making_pair (EqualRoots a b) = record { first = a; second = b }
 
 -- the number of a fault of a start: that of the header's bytes, 13 or 14
 abbrev pub start_number : StartFault → ℕ

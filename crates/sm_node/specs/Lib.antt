@@ -5,7 +5,6 @@ pub mod Faults
 pub mod Handing
 pub mod Headers
 pub mod NodeHandle
-pub mod Longest
 pub mod Owning
 pub mod Plans
 pub mod Starting

@@ -8,7 +8,7 @@ use Rattle.gen_net.specs.declared.version.Version.TheVariants.{One, Two}
 use Rattle.gen_net.specs.Header.{RunHeader, slot_of}
 use Rattle.gen_net.specs.Network.{AreNeighbours, rounds}
 use Rattle.gen_net.specs.Version.{version_one, version_two}
-use Rattle.sm_node.specs.Longest.{frame_most}
+use Rattle.gen_plan.specs.Longest.{frame_most}
 use Rattle.sm_node.specs.declared.faults.BytesFault.{BytesFault}
 use Rattle.sm_node.specs.declared.headers.SmNumbers.{SmNumbers}
 use Rattle.sm_node.specs.declared.told.NodeReply.{NodeReply}

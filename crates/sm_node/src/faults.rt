@@ -4,6 +4,7 @@ ghost use Rattle.sm_node.specs.Faults as numbers;
 
 use gen_audit::BundleFault;
 use gen_net::HeaderFault;
+use gen_types::GeneralNo;
 
 /// The number of a frame's fault is this much more than its text has.
 pub(crate) const FRAME_FAULTS: u32 = 20;
@@ -16,6 +17,36 @@ pub enum BytesFault {
     /// Bytes are left over after the header.
     LeftOver,
 }
+
+/// Why there is no header of numbers, edges and roots.
+#[derive(Clone, Copy, Debug, PartialEq, Eq)]
+pub enum MakingFault {
+    /// The header breaks this rule.
+    Broken(HeaderFault),
+    /// The generals a and b, a before b, have the same root. No lesser pair has.
+    EqualRoots {
+        /// The first general.
+        a: GeneralNo,
+        /// The second general.
+        b: GeneralNo,
+    },
+}
+
+/// Two generals.
+#[repr(C)]
+#[derive(Clone, Copy, Debug, PartialEq, Eq)]
+pub struct SmPair {
+    /// The number of the first general.
+    pub first: u32,
+    /// The number of the second general.
+    pub second: u32,
+}
+
+/// In place of two generals: there are none.
+pub(crate) const NO_PAIR: SmPair = SmPair {
+    first: 0,
+    second: 0,
+};
 
 /// Why there is no node of a header's bytes, a general, its order and its seed.
 #[derive(Clone, Copy, Debug, PartialEq, Eq)]
@@ -48,6 +79,31 @@ pub(crate) fn bytes_number(fault: BytesFault) -> u32
     match fault {
         BytesFault::BadHeader(inner) => u32::from(inner.number()),
         BytesFault::LeftOver => 12,
+    }
+}
+
+impl MakingFault {
+    /// Returns the number of the fault, 1 to 11 or 15.
+    pub(crate) fn number(&self) -> u32
+        ensures { result ≡ numbers.making_number self.now }
+    {
+        match *self {
+            MakingFault::Broken(inner) => u32::from(inner.number()),
+            MakingFault::EqualRoots { .. } => 15,
+        }
+    }
+
+    /// Returns the two generals that have the same root; 0 and 0 for another fault.
+    pub(crate) fn pair(&self) -> SmPair
+        ensures { result ≡ numbers.making_pair self.now }
+    {
+        match *self {
+            MakingFault::Broken(_) => NO_PAIR,
+            MakingFault::EqualRoots { a, b } => SmPair {
+                first: u32::from(a.get()),
+                second: u32::from(b.get()),
+            },
+        }
     }
 }
 

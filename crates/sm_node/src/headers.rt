@@ -1,12 +1,14 @@
 //! Headers as bytes that are handed in, and as they are made from numbers, edges and roots.
 ghost use Rattle.std.specs.Prelude.{◌≡◌};
 ghost use Rattle.gen_types.specs.Spelled.{IsRead};
+ghost use Rattle.gen_plan.specs.EqualRoots.{equal_roots, first_pair};
 ghost use Rattle.sm_node.specs.Headers as headers;
 
-use crate::faults::BytesFault;
+use crate::faults::{BytesFault, MakingFault, NO_PAIR, SmPair};
 use crate::handing::put;
 use crate::told::NodeReply;
 use gen_net::{Header, HeaderFault, Net, header_bytes, read_header};
+use gen_plan::first_equal_roots;
 use gen_types::{ReadError, check};
 use std::alloc::Global;
 
@@ -79,6 +81,34 @@ fn header_of(
     }
 }
 
+/// Returns the header, unless two of its generals have the same root.
+fn unless_shared(header: Header) -> Result<Header, MakingFault>
+    ensures { result ≡ headers.unless_shared header (first_pair (equal_roots header)) }
+{
+    match first_equal_roots(&header) {
+        Some((a, b)) => Err(MakingFault::EqualRoots { a, b }),
+        None => Ok(header),
+    }
+}
+
+/// Returns the header of these numbers, edges and roots, each of whose generals has a root of its own; or the first rule
+/// that they break, or the least pair of generals that have the same root.
+#[tactic(auto, unfolding(crate::specs::Headers::header_given))]
+fn header_given(
+    alloc: Global,
+    numbers: &SmNumbers,
+    edges: &[[u8; 2]],
+    roots: &[[u8; 32]],
+) -> Result<Header, ReadError<MakingFault>>
+    ensures { IsRead result (headers.header_given numbers.now edges.now roots.now) }
+{
+    match header_of(alloc, numbers, edges, roots) {
+        Ok(header) => unless_shared(header).map_err(ReadError::Fault),
+        Err(ReadError::Memory) => Err(ReadError::Memory),
+        Err(ReadError::Fault(fault)) => Err(ReadError::Fault(MakingFault::Broken(fault))),
+    }
+}
+
 /// Hands out the bytes of the header of these numbers, edges and roots.
 pub(crate) fn make_header(
     alloc: Global,
@@ -88,20 +118,23 @@ pub(crate) fn make_header(
     room: &mut [u8],
     count: &mut usize,
     fault: &mut u32,
+    equal: &mut SmPair,
 ) -> NodeReply
-    ensures { headers.MakesHeader (headers.header_made numbers.now edges.now roots.now)
-        room.old room.new count.new fault.new result }
+    ensures { headers.MakesHeader (headers.header_given numbers.now edges.now roots.now)
+        room.old room.new count.new fault.new equal.new result }
 {
     *count = 0;
     *fault = 0;
-    match header_of(alloc, numbers, edges, roots) {
+    *equal = NO_PAIR;
+    match header_given(alloc, numbers, edges, roots) {
         Ok(header) => match header_bytes(alloc, &header) {
             Ok(bytes) => put(bytes.as_slice(), room, count),
             Err(_) => NodeReply::Memory,
         },
         Err(ReadError::Memory) => NodeReply::Memory,
         Err(ReadError::Fault(broken)) => {
-            *fault = u32::from(broken.number());
+            *fault = broken.number();
+            *equal = broken.pair();
             NodeReply::Fault
         }
     }

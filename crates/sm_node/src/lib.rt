@@ -20,7 +20,7 @@ ghost use Rattle.sm_node.specs.Asking.{Tells};
 ghost use Rattle.sm_node.specs.Bundles.{HandsBundle, logs_in};
 ghost use Rattle.sm_node.specs.Driving.{Begins, Ends, Finishes, HandsLog, Hears, Sends, TellsOrder};
 ghost use Rattle.sm_node.specs.Handing.{IsUntouched};
-ghost use Rattle.sm_node.specs.Headers.{header_made, MakesHeader};
+ghost use Rattle.sm_node.specs.Headers.{header_given, MakesHeader};
 ghost use Rattle.sm_node.specs.Plans.{TellsMost, TellsNeighbours, TellsNumbers, TellsRounds};
 ghost use Rattle.sm_node.specs.Starting.{Starts, WritesRoot};
 ghost use Rattle.sm_node.specs.NodeReply.{IsTold};
@@ -31,7 +31,6 @@ mod faults;
 mod handing;
 mod headers;
 mod held;
-mod longest;
 mod loose;
 mod opaque;
 mod plans;
@@ -40,13 +39,14 @@ mod told;
 
 use crate::asking::{Question, ask};
 use crate::bundles::{BundleWalks, SmLog, hand_bundle};
+use crate::faults::SmPair;
 use crate::headers::{SmNumbers, make_header};
-use crate::longest::frame_most;
 use crate::opaque::SmNode;
 use crate::plans::{numbers_of, with_header};
 use crate::starting::{NUMBERS, start, write_root};
 use crate::told::MISUSE;
 use gen_net::Header;
+use gen_plan::frame_most;
 use gen_types::GeneralNo;
 use std::alloc::Global;
 
@@ -64,7 +64,7 @@ pub extern "C" fn sm_node_root(
 }
 
 /// Hands out the bytes of the header of these numbers, edges and roots. The edges come in any order and direction, the
-/// roots in the order of their generals.
+/// roots in the order of their generals. If two generals have the same root, the least such pair is told.
 #[unsafe(no_mangle)]
 pub extern "C" fn sm_node_header(
     alloc: Global,
@@ -74,11 +74,12 @@ pub extern "C" fn sm_node_header(
     room: &mut [u8],
     count: &mut usize,
     fault: &mut u32,
+    equal: &mut SmPair,
 ) -> u32
-    ensures { IsTold (MakesHeader (header_made numbers.now edges.now roots.now)
-        room.old room.new count.new fault.new) result }
+    ensures { IsTold (MakesHeader (header_given numbers.now edges.now roots.now)
+        room.old room.new count.new fault.new equal.new) result }
 {
-    make_header(alloc, numbers, edges, roots, room, count, fault).status()
+    make_header(alloc, numbers, edges, roots, room, count, fault, equal).status()
 }
 
 /// Makes a node of a header's bytes, a general, its seed and its order, in a place that holds no node; 255 says that

@@ -143,6 +143,7 @@ class Jobs(unittest.TestCase):
                 self.assertEqual(vamuretu.words(given), answer(("words",), given)[1])
         self.assertEqual(vamuretu.explain("K2"), told(["explain", "K2"], b""))
         self.assertIsNone(vamuretu.explain("nothing of this name"))
+        self.assertEqual(vamuretu.explain(""), told(["explain"], b""))
 
     def test_shown_runs(self):
         bundle, found = ((EXAMPLES / name).read_bytes() for name in ("split.bundle", "split.evidence"))

@@ -8,7 +8,7 @@ import unittest
 import warnings
 
 import vamuretu
-from vamuretu import InputFault, Misuse, Node, NodeFault
+from vamuretu import EqualRoots, InputFault, Misuse, Node, NodeFault
 
 from .support import ALL, RING, answer, drive, exhibits_of, needs, seed_of
 
@@ -63,6 +63,10 @@ class Headers(unittest.TestCase):
         for other, name in cases:
             with self.subTest(name):
                 self.assertEqual(fault_of(vamuretu.header, **{**of, **other}), NodeFault[name])
+        with self.assertRaises(EqualRoots) as caught:
+            vamuretu.header(**of)
+        self.assertEqual((caught.exception.generals, caught.exception.number), ((0, 1), NodeFault.EQUAL_ROOTS))
+        self.assertEqual(caught.exception.line, "fault G2 generals 0 1")
         for other in ({"orders": 256}, {"slot": -1}, {"edges": [(0, 256)]}, {"roots": [bytes(31)] * 2}):
             with self.subTest(other), self.assertRaises(Misuse):
                 vamuretu.header(**{**of, **other})

@@ -38,6 +38,12 @@ class Verdicts(unittest.TestCase):
         explained = read_verdict(f"{RUN}verdict explained\ngeneral 1 decides 0\ngeneral 3 decides 2\nend\n")
         self.assertEqual(explained.decisions, (Decision(1, 0), Decision(3, 2)))
 
+    def test_kinds_are_their_words(self):
+        for kind, said in (("agreed", "agreed 1"), ("explained", "explained"), ("no", "no\nN11")):
+            verdict = read_verdict(f"{RUN}verdict {said}\nend\n")
+            self.assertEqual((verdict.kind, str(verdict.kind), f"{verdict.kind}", {kind: 0}[verdict.kind]), (kind, kind, kind, 0))
+            self.assertEqual([it for it in Kind if it == kind], [verdict.kind])
+
     def test_findings(self):
         text = f"{RUN}verdict no\n{''.join(f'{line}{chr(10)}' for line in FINDINGS)}convicted 1 by K4\nend\n"
         verdict = read_verdict(text)

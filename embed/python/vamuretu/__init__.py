@@ -4,10 +4,10 @@ The work is done by two shared libraries, libsm_embed.so and libsm_node.so, whic
 says where they are looked for, and docs/EMBED.md of the sources what each call does.
 """
 
-from ._faults import InputFault, LibraryMissing, Misuse, NodeFault, OtherRun
+from ._faults import EqualRoots, InputFault, LibraryMissing, Misuse, NodeFault, OtherRun
 from ._headers import Header, header, read_header, root
 from ._jobs import Evidence, accuse, audit, audit_json, decide, decide_json, draw, evidence, evidence_json, explain
-from ._jobs import refute, run_ids, show, show_json, words
+from ._jobs import plan, refute, run_ids, show, show_json, words
 from ._libraries import use_libraries, version
 from ._nodes import Node, bundle
 from ._texts import (
@@ -29,6 +29,7 @@ __all__ = [
     "CampaignVerdict",
     "Conviction",
     "Decision",
+    "EqualRoots",
     "Evidence",
     "Finding",
     "Header",
@@ -53,6 +54,7 @@ __all__ = [
     "evidence_json",
     "explain",
     "header",
+    "plan",
     "read_decisions",
     "read_header",
     "read_verdict",

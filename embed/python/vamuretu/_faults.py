@@ -3,7 +3,7 @@
 from __future__ import annotations
 
 import enum
-from typing import Optional
+from typing import Optional, Tuple
 
 
 class NodeFault(enum.IntEnum):
@@ -26,6 +26,8 @@ class NodeFault(enum.IntEnum):
     """The number is none of the header's nodes (generals), or the value (order) does not fit the node."""
     OTHER_ROOT = 14
     """The header has another root for the node than that of the seed's keys."""
+    EQUAL_ROOTS = 15
+    """Two nodes have the same root."""
     F1 = 21
     F2 = 22
     F3 = 23
@@ -71,6 +73,7 @@ _TEXTS = {
     NodeFault.LEFT_OVER: "bytes are left over behind the header",
     NodeFault.NO_GENERAL: "the number is none of the header's generals, or the order does not fit the general",
     NodeFault.OTHER_ROOT: "the header has another root for the general than that of the seed's keys",
+    NodeFault.EQUAL_ROOTS: "two generals have the same root",
     NodeFault.F1: "no frame of this general is awaited",
     NodeFault.F2: "the frame of this general was taken before",
     NodeFault.F3: "the bytes end before the frame does",
@@ -106,6 +109,19 @@ class InputFault(ValueError):
         super().__init__(line)
         self.line = line
         self.number = number
+
+
+class EqualRoots(InputFault):
+    """Two nodes (generals) of a header have the same root. `line` is what sm_tool prints, as `fault G2 generals 0 2`, and
+    `generals` are the two, the lesser one first. No lesser pair has.
+    """
+
+    def __init__(self, first: int, second: int) -> None:
+        super().__init__(f"fault G2 generals {first} {second}", NodeFault.EQUAL_ROOTS)
+        self.generals: Tuple[int, int] = (first, second)
+
+    def __reduce__(self) -> Tuple[type, Tuple[int, int]]:
+        return EqualRoots, self.generals
 
 
 class OtherRun(InputFault):

@@ -7,8 +7,8 @@ import hashlib
 from dataclasses import dataclass
 from typing import FrozenSet, Iterable, Optional, Sequence, Tuple
 
-from ._faults import InputFault, Misuse, NodeFault
-from ._libraries import NODES, Bytes, Call, Numbers, as_bytes, exactly, library, number, written
+from ._faults import EqualRoots, InputFault, Misuse, NodeFault
+from ._libraries import NODES, Bytes, Call, Numbers, Pair, as_bytes, exactly, library, number, written
 
 DONE, MISUSE, BAD, REFUSED = 0, 2, 3, 4
 ROOT_BYTES = 32
@@ -83,11 +83,11 @@ def must(status: int, call: str, told: Optional[ctypes.c_uint32] = None) -> None
         raise Misuse(f"{call} is not allowed here")
 
 
-def made(name: str, words: Sequence[object], room: int) -> bytes:
-    """The bytes that a call makes which has no node, sm_node_header or sm_node_bundle."""
+def made(name: str, words: Sequence[object], room: int, *more: object) -> bytes:
+    """The bytes that a call makes which has no node, sm_node_header or sm_node_bundle. More is told behind the fault."""
     told = ctypes.c_uint32(0)
     function = getattr(library(NODES), name)
-    call: Call = lambda *ends: int(function(*words, *ends, ctypes.byref(told)))
+    call: Call = lambda *ends: int(function(*words, *ends, ctypes.byref(told), *more))
     status, data = written(call, room)
     must(status, name, told)
     return data
@@ -119,12 +119,20 @@ def header(
     """The header of these numbers, edges in any order and direction, and roots in the order of their nodes (generals).
 
     `traitors` is m, and `diameter` is d. The slot counts in version 2 alone. InputFault has H1 to H8, H10 or H11.
+    It is EqualRoots, behind these, if two nodes have the same root.
     """
     told = [number(it, 256, "a number") for it in (version, slot, generals, traitors, diameter, orders, choice)]
     ends = [number(end, 256, "an end of an edge") for a, b in edges for end in (a, b)]
     keys = [exactly(ROOT_BYTES, it, "a root") for it in roots]
     words = [ctypes.byref(Numbers(*told)), bytes(ends), len(ends) // 2, b"".join(keys), len(keys)]
-    return after_mark(made("sm_node_header", words, 8 + len(ends) + ROOT_BYTES * len(keys)), 0)
+    equal = Pair()
+    try:
+        data = made("sm_node_header", words, 8 + len(ends) + ROOT_BYTES * len(keys), ctypes.byref(equal))
+    except InputFault as fault:
+        if fault.number is not NodeFault.EQUAL_ROOTS:
+            raise
+        raise EqualRoots(equal.first, equal.second) from None
+    return after_mark(data, 0)
 
 
 def read_header(data: Bytes) -> Header:

@@ -182,7 +182,7 @@ def explain(name: str) -> Optional[str]:
     """What a name means that stands in an answer, as `sm_tool explain` writes it, or None if it is no name.
 
     A name is that of a finding, a conviction, a fault or a verdict, as "N8", "K2", "B3 H6" or "agreed", and the line of
-    an InputFault. A whole line of a verdict is none.
+    an InputFault. A whole line of a verdict is none. The empty name has all names, a line each.
     """
     is_no, text = _made("explain", name.encode("utf-8"))
     return None if is_no else text.decode("ascii")
@@ -191,3 +191,12 @@ def explain(name: str) -> Optional[str]:
 def words(text: Bytes) -> bytes:
     """A text with what each of its lines means behind the line, as `sm_tool words` writes it."""
     return _made("words", text)[1]
+
+
+def plan(given: Bytes) -> Tuple[bool, str]:
+    """Whether the plan of a header holds, and the text on it, as `sm_tool plan` writes it.
+
+    What is given is a header, its text for version 1, a bundle or a campaign, of which the first header is taken.
+    """
+    is_no, text = _made("plan", given)
+    return not is_no, text.decode("ascii")

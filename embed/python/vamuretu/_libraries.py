@@ -35,6 +35,12 @@ class LogOf(ctypes.Structure):
     _fields_ = [("general", c_uint32), ("bytes", c_size_t)]
 
 
+class Pair(ctypes.Structure):
+    """`sm_pair`."""
+
+    _fields_ = [("first", c_uint32), ("second", c_uint32)]
+
+
 # A text that is read is a pointer and a length. One that is written has a count besides. An answer is one pointer.
 _READ: List[Any] = [c_char_p, c_size_t]
 _WRITTEN: List[Any] = [c_char_p, c_size_t, POINTER(c_size_t)]
@@ -64,13 +70,14 @@ _ENDS: Dict[str, Dict[str, List[Any]]] = {
         "sm_show_as": _READ + [c_uint32] + _READ + _ANSWER,
         "sm_explain": _READ + _ANSWER,
         "sm_words": _READ + _ANSWER,
+        "sm_plan": _READ + _ANSWER,
         "sm_answer_text": _ANSWER + _WRITTEN,
         "sm_answer_free": _ANSWER,
         "sm_version": [],
     },
     NODES: {
         "sm_node_root": [c_char_p, c_uint32, c_char_p],
-        "sm_node_header": [POINTER(Numbers)] + _READ + _READ + _WRITTEN + _FAULT,
+        "sm_node_header": [POINTER(Numbers)] + _READ + _READ + _WRITTEN + _FAULT + [POINTER(Pair)],
         "sm_node_new": _NODE + _READ + [c_uint32, c_char_p, c_uint32] + _FAULT,
         "sm_node_begin_round": _NODE,
         "sm_node_send": _NODE + [c_uint32] + _WRITTEN,

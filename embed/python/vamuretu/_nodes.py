@@ -116,7 +116,10 @@ class Node:
         return self._tells("sm_node_is_over")
 
     def finish(self) -> None:
-        """Ends the node after the last round: its log is sealed, and its keys are gone."""
+        """Ends the node after the last round: its log is sealed, and its keys sign no more.
+
+        The memory of the keys is freed, and is not wiped.
+        """
         must(self._call("sm_node_finish"), "sm_node_finish")
 
     def order(self) -> int:

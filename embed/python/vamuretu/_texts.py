@@ -4,20 +4,24 @@ from __future__ import annotations
 
 import enum
 import re
-from dataclasses import dataclass
+from dataclasses import dataclass, replace
 from typing import Callable, FrozenSet, List, Match, Optional, Tuple, TypeVar, Union
 
 T = TypeVar("T")
 
 
-class Kind(enum.Enum):
+class Kind(str, enum.Enum):
     """What a verdict says. AGREED: nothing is found, and at most m nodes are held for faulty. EXPLAINED: nothing is
-    found, and more than m are. It promises no agreement. NO: something is found.
+    found, and more than m are. It promises no agreement. NO: something is found. A kind is the word of the text too:
+    `Kind.AGREED == "agreed"`.
     """
 
     AGREED = "agreed"
     EXPLAINED = "explained"
     NO = "no"
+
+    def __str__(self) -> str:
+        return self.value
 
 
 @dataclass(frozen=True)
@@ -95,9 +99,17 @@ class AcrossConviction:
         return f"convicted {self.general} by K1 across {self.runs[0]} {self.runs[1]}"
 
 
+def _equal_lines(pairs: Tuple[Tuple[int, int], ...]) -> List[str]:
+    """The lines of equal roots."""
+    return [f"equal roots {first} {second}" for first, second in pairs]
+
+
 @dataclass(frozen=True)
 class Verdict:
-    """The verdict on one run. AGREED has an order, EXPLAINED has decisions, and NO has findings."""
+    """The verdict on one run. AGREED has an order, EXPLAINED has decisions, and NO has findings.
+
+    `equal_roots` are the pairs of nodes (generals) with the same root, if the text is of `sm_tool audit --strict`.
+    """
 
     run_id: str
     kind: Kind
@@ -105,6 +117,7 @@ class Verdict:
     decisions: Tuple[Decision, ...]
     findings: Tuple[Finding, ...]
     convictions: Tuple[Conviction, ...]
+    equal_roots: Tuple[Tuple[int, int], ...] = ()
 
     @property
     def is_no(self) -> bool:
@@ -113,15 +126,19 @@ class Verdict:
     def __str__(self) -> str:
         order = "" if self.order is None else f" {self.order}"
         parts = [*self.decisions, *self.findings, *self.convictions]
-        return _joined([f"run {self.run_id}", f"verdict {self.kind.value}{order}", *map(str, parts), "end"])
+        said = [f"run {self.run_id}", f"verdict {self.kind.value}{order}", *map(str, parts), "end"]
+        return _joined(said + _equal_lines(self.equal_roots))
 
 
 @dataclass(frozen=True)
 class CampaignVerdict:
-    """The verdicts on the runs of a campaign, and who is convicted across two of them."""
+    """The verdicts on the runs of a campaign, and who is convicted across two of them. `equal_roots` is as of a verdict,
+    and of all runs.
+    """
 
     runs: Tuple[Verdict, ...]
     convictions: Tuple[AcrossConviction, ...]
+    equal_roots: Tuple[Tuple[int, int], ...] = ()
 
     @property
     def is_no(self) -> bool:
@@ -130,7 +147,8 @@ class CampaignVerdict:
 
     def __str__(self) -> str:
         runs = "".join(map(str, self.runs))
-        return f"campaign {len(self.runs)}\n{runs}{_joined([*map(str, self.convictions), 'end campaign'])}"
+        said = [*map(str, self.convictions), "end campaign", *_equal_lines(self.equal_roots)]
+        return f"campaign {len(self.runs)}\n{runs}{_joined(said)}"
 
 
 Judgement = Union[Verdict, CampaignVerdict]
@@ -144,6 +162,7 @@ _N = r"(0|[1-9][0-9]*)"
 _DECISION = re.compile(rf"general {_N} decides {_N}")
 _RUN_DECISION = re.compile(rf"general {_N} set (-|{_N}(?:,{_N})*) decides {_N}")
 _CONVICTION = re.compile(rf"convicted {_N} by K([1-4])")
+_EQUAL = re.compile(rf"equal roots {_N} {_N}")
 _ACROSS = re.compile(rf"convicted {_N} by K1 across {_N} {_N}")
 
 
@@ -261,8 +280,9 @@ def read_verdict(text: str) -> Judgement:
         runs = tuple(_verdict(lines) for _ in range(int(count[1])))
         judgement = CampaignVerdict(runs, lines.many(_ACROSS, _across))
         lines.must("end campaign")
+    pairs = lines.many(_EQUAL, lambda it: (int(it[1]), int(it[2])))
     lines.end()
-    return judgement
+    return replace(judgement, equal_roots=pairs)
 
 
 def read_decisions(text: str) -> Tuple[RunDecision, ...]:

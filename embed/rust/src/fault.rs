@@ -2,6 +2,8 @@
 
 use std::fmt;
 
+use crate::raw;
+
 /// Why a call gave no answer. Nothing was changed, but for [`Fault::Memory`] of a round.
 #[derive(Debug, Clone, PartialEq, Eq)]
 pub enum Fault {
@@ -11,6 +13,8 @@ pub enum Fault {
     OtherRun,
     /// What was handed to a call on nodes, headers or bundles has a fault.
     Node(NodeFault),
+    /// Two nodes of a header have the same root, the lesser one first. No lesser pair has.
+    EqualRoots(u32, u32),
     /// The call is not allowed here, or a number is out of its range: the calling program has a mistake. Of
     /// [`accuse_known`](crate::accuse_known) the general may also be none of the run's, and of
     /// [`Node::hear`](crate::Node::hear) the frame may have come after the node ended.
@@ -41,6 +45,8 @@ pub enum NodeFault {
     NoGeneral,
     /// The header has another root for the node than that of the seed's keys.
     OtherRoot,
+    /// Two nodes have the same root: [`Fault::EqualRoots`] names them.
+    EqualRoots,
     F1,
     F2,
     F3,
@@ -70,7 +76,7 @@ use NodeFault::*;
 
 /// The faults of each row of numbers, with the first number.
 const NUMBERED: [(u32, &[NodeFault]); 5] = [
-    (1, &[H1, H2, H3, H4, H5, H6, H7, H8, H9, H10, H11, LeftOver, NoGeneral, OtherRoot]),
+    (1, &[H1, H2, H3, H4, H5, H6, H7, H8, H9, H10, H11, LeftOver, NoGeneral, OtherRoot, EqualRoots]),
     (21, &[F1, F2, F3, F4, F5, F6, F7, F8]),
     (31, &[U1, U2]),
     (41, &[B1, B2, B3, B4, B5, B6, B7, B8, B9]),
@@ -91,6 +97,7 @@ impl fmt::Display for NodeFault {
             LeftOver => write!(to, "bytes are left over behind a header"),
             NoGeneral => write!(to, "no general of the header, or an order that does not fit it"),
             OtherRoot => write!(to, "another root than that of the seed's keys"),
+            EqualRoots => write!(to, "two generals have the same root"),
             U1 => write!(to, "two generals that are not held for faulty have no walk"),
             U2 => write!(to, "two generals that are not held for faulty have no walk of at most d edges"),
             LongLog => write!(to, "a log of 2^32 bytes or more"),
@@ -105,6 +112,7 @@ impl fmt::Display for Fault {
             Fault::Input(line) => write!(to, "{line}"),
             Fault::OtherRun => write!(to, "fault R1"),
             Fault::Node(fault) => write!(to, "{fault}"),
+            Fault::EqualRoots(first, second) => write!(to, "fault G2 generals {first} {second}"),
             Fault::Misuse => write!(to, "the call is not allowed here"),
             Fault::Memory => write!(to, "memory was refused"),
         }
@@ -117,9 +125,9 @@ impl Fault {
     /// What a call of the library of nodes ended with, by its status and the fault that it told.
     pub(crate) fn of_node(status: u32, number: u32) -> Result<(), Fault> {
         match status {
-            0 => Ok(()),
-            3 => Err(NodeFault::of_number(number).map_or(Fault::Misuse, Fault::Node)),
-            4 => Err(Fault::Memory),
+            raw::OK => Ok(()),
+            raw::FAULT => Err(NodeFault::of_number(number).map_or(Fault::Misuse, Fault::Node)),
+            raw::MEMORY => Err(Fault::Memory),
             _ => Err(Fault::Misuse),
         }
     }
@@ -133,7 +141,8 @@ mod tests {
     fn numbers_are_those_of_the_header() {
         let header = include_str!("../../sm_node.h");
         for (name, fault) in
-            [("SM_LEFT_OVER = 12", LeftOver), ("SM_NO_GENERAL = 13", NoGeneral), ("SM_OTHER_ROOT = 14", OtherRoot)]
+            [("SM_LEFT_OVER = 12", LeftOver), ("SM_NO_GENERAL = 13", NoGeneral), ("SM_OTHER_ROOT = 14", OtherRoot),
+             ("SM_EQUAL_ROOTS = 15", EqualRoots)]
         {
             let number = name.rsplit(' ').next().expect("a number").parse().expect("a number");
             assert!(header.contains(name) && NodeFault::of_number(number) == Some(fault));
@@ -143,7 +152,7 @@ mod tests {
         for (number, fault) in told {
             assert_eq!(NodeFault::of_number(number), Some(fault));
         }
-        for number in [0, 15, 20, 29, 33, 40, 51, u32::MAX] {
+        for number in [0, 16, 20, 29, 33, 40, 51, u32::MAX] {
             assert_eq!(NodeFault::of_number(number), None);
         }
     }
@@ -156,7 +165,7 @@ mod tests {
         assert_eq!((Fault::of_node(0, 0), Fault::of_node(2, 0)), (Ok(()), Err(Fault::Misuse)));
         assert_eq!((Fault::of_node(3, 6), Fault::of_node(4, 0)), (Err(Fault::Node(H6)), Err(Fault::Memory)));
         assert_eq!(Fault::Node(H6).to_string(), "fault H6");
-        for fault in [LeftOver, NoGeneral, OtherRoot, U1, U2, LongLog] {
+        for fault in [LeftOver, NoGeneral, OtherRoot, EqualRoots, U1, U2, LongLog] {
             assert!(!fault.to_string().starts_with("fault"), "a name that explain does not know");
         }
     }

@@ -2,7 +2,8 @@
 
 use std::fmt;
 
-use crate::raw::{self, written, SmNumbers};
+use crate::fault::NodeFault;
+use crate::raw::{self, written, SmNumbers, SmPair};
 use crate::Fault;
 
 /// The version of the formats.
@@ -80,7 +81,7 @@ pub struct Header(Vec<u8>);
 
 impl Header {
     /// The header of these numbers, edges in any order and direction, and roots in the order of their nodes (generals).
-    /// Faults are H1 to H8 and H11.
+    /// Faults are H1 to H8 and H11, and behind them that two nodes have the same root.
     pub fn new(numbers: &Numbers, edges: &[(u8, u8)], roots: &[Root]) -> Result<Header, Fault> {
         let given = SmNumbers {
             version: numbers.version.number(),
@@ -94,13 +95,20 @@ impl Header {
         let ends: Vec<u8> = edges.iter().flat_map(|&(a, b)| [a, b]).collect();
         let keys: Vec<u8> = roots.iter().flat_map(|root| root.0).collect();
         let mut fault = 0;
+        let mut equal = SmPair { first: 0, second: 0 };
         // SAFETY: the pointers are of pieces of memory of these lengths that do not overlap, and nobody else has the
-        // room, the count and the fault.
+        // room, the count, the fault and the pair.
         let (status, bytes) = written(8 + ends.len() + keys.len(), |room, room_bytes, count| unsafe {
             let (ends_at, keys_at) = (ends.as_ptr(), keys.as_ptr());
-            raw::sm_node_header(&given, ends_at, edges.len(), keys_at, roots.len(), room, room_bytes, count, &mut fault)
+            let (edge_count, root_count, told) = (edges.len(), roots.len(), &mut fault);
+            raw::sm_node_header(
+                &given, ends_at, edge_count, keys_at, root_count, room, room_bytes, count, told, &mut equal,
+            )
         });
-        Fault::of_node(status, fault).map(|()| Header(bytes))
+        match Fault::of_node(status, fault) {
+            Err(Fault::Node(NodeFault::EqualRoots)) => Err(Fault::EqualRoots(equal.first, equal.second)),
+            told => told.map(|()| Header(bytes)),
+        }
     }
 
     /// The header that bytes spell. Faults are H1 to H7, H9 to H11, or bytes that are left over.

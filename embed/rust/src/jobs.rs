@@ -43,10 +43,10 @@ fn text_of(bytes: Vec<u8>) -> String {
 /// The end of a job, by its status and the bytes that it wrote: whether it is a no, and the bytes.
 fn ended((status, bytes): (u32, Vec<u8>)) -> Result<(bool, Vec<u8>), Fault> {
     match status {
-        0 | 1 => Ok((status == 1, bytes)),
-        3 => Err(Fault::Input(text_of(bytes))),
-        7 => Err(Fault::OtherRun),
-        4 => Err(Fault::Memory),
+        raw::OK | raw::NO => Ok((status == raw::NO, bytes)),
+        raw::FAULT => Err(Fault::Input(text_of(bytes))),
+        raw::OTHER => Err(Fault::OtherRun),
+        raw::MEMORY => Err(Fault::Memory),
         _ => Err(Fault::Misuse),
     }
 }
@@ -178,7 +178,7 @@ pub fn run_ids(input: &[u8]) -> Result<Option<Vec<RunId>>, Fault> {
     let (status, ids) = written(4 * size_of::<RunId>(), |room, room_bytes, count| unsafe {
         raw::sm_run_id(input.as_ptr(), input.len(), room, room_bytes, count)
     });
-    if status == 3 {
+    if status == raw::FAULT {
         return Ok(None);
     }
     let (_, ids) = ended((status, ids))?;
@@ -213,7 +213,8 @@ fn show_as(form: u32, runs: &[RunId], input: &[u8]) -> Result<Answer, Fault> {
 }
 
 /// What a name means that stands in an answer, as `sm_tool explain` writes it, if it is one: that of a fault, a finding,
-/// a kind of conviction or a verdict. Of a line as `fault B3 H6` each name is explained.
+/// a kind of conviction or a verdict. Of a line as `fault B3 H6` each name is explained. The empty name has all names, a
+/// line each.
 pub fn explain(name: &str) -> Result<Option<String>, Fault> {
     // SAFETY: as in `audit_of`.
     let (is_no, text) = kept(|answer| unsafe { raw::sm_explain(name.as_ptr(), name.len(), answer) })?;
@@ -225,6 +226,14 @@ pub fn explain(name: &str) -> Result<Option<String>, Fault> {
 pub fn words(text: &[u8]) -> Result<Vec<u8>, Fault> {
     // SAFETY: as in `audit_of`.
     kept(|answer| unsafe { raw::sm_words(text.as_ptr(), text.len(), answer) }).map(|(_, bytes)| bytes)
+}
+
+/// Whether the plan of a header holds, and the text on it, as `sm_tool plan` writes it: of a header, its text for version
+/// 1, a bundle or a campaign, of which the first header is taken. A plan that fails is a no.
+pub fn plan(input: &[u8]) -> Result<Answer, Fault> {
+    // SAFETY: as in `audit_of`.
+    let (is_no, text) = kept(|answer| unsafe { raw::sm_plan(input.as_ptr(), input.len(), answer) })?;
+    Ok(if is_no { Answer::No(text_of(text)) } else { Answer::Yes(text_of(text)) })
 }
 
 /// The evidence against a node (general), as [`accuse`], but [`Fault::Misuse`] too for one that is none of the run's.

@@ -137,7 +137,8 @@ impl Node {
         Fault::of_node(status, 0).map(|()| is_over == 1)
     }
 
-    /// Ends the node after the last round: its log is sealed, and its keys are gone.
+    /// Ends the node after the last round: its log is sealed, and its keys sign no more. Their memory is freed, and is
+    /// not wiped.
     pub fn finish(&mut self) -> Result<(), Fault> {
         // SAFETY: as in `begin_round`.
         Fault::of_node(unsafe { raw::sm_node_finish(&mut *self.place) }, 0)

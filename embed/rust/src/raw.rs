@@ -2,8 +2,14 @@
 
 use std::ffi::c_void;
 
-/// The status of a call whose room was too short. The count says how many bytes are needed.
+/// The statuses of calls, as `sm_status.h` has them. All others say that the calling program has a mistake.
+pub const OK: u32 = 0;
+pub const NO: u32 = 1;
+pub const FAULT: u32 = 3;
+pub const MEMORY: u32 = 4;
+/// The room was too short. The count says how many bytes are needed.
 pub const SHORT: u32 = 5;
+pub const OTHER: u32 = 7;
 /// In place of an order: the node has none.
 pub const NO_ORDER: u32 = 255;
 
@@ -29,6 +35,13 @@ pub struct SmNumbers {
     pub diameter: u8,
     pub orders: u8,
     pub choice: u8,
+}
+
+/// `sm_pair`.
+#[repr(C)]
+pub struct SmPair {
+    pub first: u32,
+    pub second: u32,
 }
 
 /// `sm_log`.
@@ -113,6 +126,7 @@ extern "C" {
     ) -> u32;
     pub fn sm_explain(input: *const u8, input_bytes: usize, answer: *mut SmAnswer) -> u32;
     pub fn sm_words(input: *const u8, input_bytes: usize, answer: *mut SmAnswer) -> u32;
+    pub fn sm_plan(input: *const u8, input_bytes: usize, answer: *mut SmAnswer) -> u32;
     pub fn sm_answer_text(answer: *mut SmAnswer, room: *mut u8, room_bytes: usize, count: *mut usize) -> u32;
     pub fn sm_answer_free(answer: *mut SmAnswer);
     pub fn sm_version() -> u32;
@@ -128,6 +142,7 @@ extern "C" {
         room_bytes: usize,
         count: *mut usize,
         fault: *mut u32,
+        equal: *mut SmPair,
     ) -> u32;
     pub fn sm_node_new(
         node: *mut SmNode,

@@ -99,7 +99,7 @@ fn headers() {
     {
         assert_eq!(Header::read(given), Err(Fault::Node(fault)));
     }
-    let roots = [Root([0; 32]); 3];
+    let roots = [Root([0; 32]), Root([1; 32]), Root([2; 32])];
     let line = Numbers { generals: 3, traitors: 0, ..NUMBERS };
     let parted = Header::new(&line, &[(0, 1), (1, 2)], &roots).expect("a header");
     assert_eq!(Header::read(parted.as_bytes()), Ok(parted.clone()));
@@ -113,6 +113,8 @@ fn headers() {
     ] {
         assert_eq!(Header::new(&numbers, edges, &roots), Err(Fault::Node(fault)));
     }
+    let shared = [roots[0], roots[1], roots[1]];
+    assert_eq!(Header::new(&line, &[(0, 1), (1, 2)], &shared), Err(Fault::EqualRoots(1, 2)));
 }
 
 #[test]

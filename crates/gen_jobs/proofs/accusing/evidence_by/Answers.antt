@@ -27,4 +27,4 @@ returns c =
     let within = subst (λ (bs : List Bundle). AccusesWithin bs c.args.general first.text.items first.negative) c.bundles.ensures.value c.in_ok-within.ensures in
     IfOk-weaker c.accusation_across.result _ _ (λ output it.
     let told = subst (λ (es : List Evidence). TellsAcross (map told_of es) c.args.general output.text.items output.negative) c.as_slice.ensures.value it in
-    runs_across bundles c.args.general output.text.items first.text.items output.negative first.negative (not_false first.negative c.if-not-within.false) within (accuses_across bundles _ c.args.general output.text.items output.negative c.requires.across told)) c.accusation_across.ensures
+    runs_across bundles c.args.general output.text.items first.text.items output.negative first.negative (not_false first.negative c.if-not-within.false) within (accuses_across bundles _ c.args.general output.text.items output.negative c.requires.across c.requires.held told)) c.accusation_across.ensures

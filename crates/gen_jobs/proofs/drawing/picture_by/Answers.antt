@@ -7,4 +7,4 @@ pub returns-clause-answer : goal.returns-clause-answer
 returns-clause-answer c =
     let shown = c.args.campaign.now in
     let v = c.args.verdict.now in
-    draws_form shown.alone shown.bundles v.judgements.items (map told_of v.across.items) c.in_ok-text.text.items c.is_alone-lawful.ensures.campaign c.requires.judged c.requires.across c.in_ok-text.ensures
+    draws_form shown.alone shown.bundles v.judgements.items (map told_of v.across.items) c.in_ok-text.text.items c.is_alone-lawful.ensures.campaign c.requires.judged c.requires.across c.requires.held c.in_ok-text.ensures

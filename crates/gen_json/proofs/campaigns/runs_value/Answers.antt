@@ -1,20 +1,17 @@
-use Rattle.std.proofs.Common.{◌≡◌, ◌∙◌, ◌++◌, ℕ, List, [], ◌∷◌, ap, append_assoc, append-nil, map, sym}
+use Rattle.std.proofs.Common.{◌≡◌, ◌∙◌, ◌++◌, List, None, [], ◌∷◌, ap, append_assoc, append-nil, map, sym}
 use Rattle.std.proofs.lemmas.List.{map-append, nil_from_length}
 use Rattle.serde_json.specs.Data.{Data, array}
 use Rattle.serde_json.specs.View.{items_of, view}
 use Rattle.serde_json.proofs.Views.{view-Array}
-use Rattle.gen_net.specs.Header.{RunHeader}
-use Rattle.gen_convict.specs.Evidence.{told_of}
 use Rattle.gen_audit.specs.Bundle.{Bundle}
 use Rattle.gen_audit.specs.declared.verdicts.Judgement.{Judgement}
 use Rattle.gen_json.specs.CampaignData.{run_data, runs_data}
-use Rattle.gen_json.specs.VerdictData.{judgement_data}
 use Rattle.gen_json.proofs.campaigns.runs_value.Goals as goal
 
 -- the judgement on one run more stands behind those on the runs before
 told : {A : Type 0} (seen : A → Data) (old new : List A) (value : A) (b : Bundle) (j : Judgement)
     (runs others : List Bundle) (rest more : List Judgement) (total : List Data)
-    → runs ≡ b ∷ others → rest ≡ j ∷ more → seen value ≡ run_data b j → new ≡ old ++ value ∷ []
+    → runs ≡ b ∷ others → rest ≡ j ∷ more → seen value ≡ run_data None b j → new ≡ old ++ value ∷ []
     → map seen old ++ runs_data runs rest ≡ total → map seen new ++ runs_data others more ≡ total
 told {A} seen old new value b j runs others rest more total bundles judgements here items before =
     ap (λ (xs : List A). map seen xs ++ runs_data others more) items
@@ -37,10 +34,7 @@ pub runs-preserved : goal.runs-preserved
 runs-preserved c =
     let b = c.in-Some.bundle.now in
     let j = c.in-Some-split_first.judgement.now in
-    let found = map told_of j.convictions.items in
-    let here : view c.in_ok-value.value ≡ run_data b j = c.in_ok-value.ensures
-    ∙ ap (λ (h : RunHeader). judgement_data h c.faulty.result.now j.verdict found) c.header.ensures.value
-    ∙ ap (λ (held : List ℕ). judgement_data b.header held j.verdict found) c.faulty.ensures in
+    let here : view c.in_ok-value.value ≡ run_data None b j = c.in_ok-value.ensures in
     told view c.runs.list.items c.push.new.list.items c.in_ok-value.value b j
     c.runs.runs.now c.in-Some.others.now c.runs.rest.now c.in-Some-split_first.more.now _
     c.in-Some.ensures.cases.0 c.in-Some-split_first.ensures.cases.0 here c.in_ok-push.ensures.ok c.runs.invariant

@@ -7,7 +7,7 @@ use Rattle.gen_convict.specs.Evidence.{Accusation, told_of}
 use Rattle.gen_json.specs.BundleData.{end_line}
 use Rattle.gen_json.specs.EvidenceData.{evidence_data}
 use Rattle.gen_json.specs.EvidenceLines.{claim_lines, evidence_line}
-use Rattle.gen_json.specs.HeaderData.{header_data}
+use Rattle.gen_json.specs.HeaderData.{header_lines}
 use Rattle.gen_json.specs.Line.{json_line}
 use Rattle.gen_json.proofs.PlainEvidence.{evidence_plain}
 use Rattle.gen_json.proofs.shown_evidence.push_evidence.Goals as goal
@@ -34,7 +34,7 @@ returns c =
     let two = c.push_claim.new.out.items in
     let three = c.push_value.new.out.items in
     let new = c.push_end.new.out.items in
-    let front = json_line (header_data (codes "evidence") h) in
+    let front = header_lines (codes "evidence") h in
     let claim = claim_lines h e.accused e.claim in
     let line = evidence_line c.args.holds (record { header = h; evidence = e }) in
     let lined : three ≡ two ++ line = c.in_ok-push_value.ensures ∙ ap (λ (xs : List ℕ). two ++ xs) (told_line h e c.args.holds (view c.in_ok-value.value) c.in_ok-value.ensures) in

@@ -26,10 +26,13 @@ returns c =
     let bare : app_of c.subcommand_required-bare.result ≡ lines.bare =
     ap app_of_fields c.subcommand_required-bare.ensures
     ∙ ap required (ap app_of_fields c.after_help.ensures ∙ ap app_of_fields c.version.ensures)
-    ∙ ap (λ a. required (versioned a)) (ap app_of_fields c.about.ensures ∙ c.new.ensures.app) in
+    ∙ ap (λ a. required (versioned a)) (ap app_of_fields c.about.ensures ∙ ap app_of_fields c.in_ok-bin_name.ensures.0
+    ∙ c.new.ensures.app) in
     finished c.finish.result app_of _ _ _ c.finish.ensures.whole c.finish.ensures.command
+    (extended _ _ _ _ _ _
     (extended _ _ _ _ _ _
     (extended _ _ _ _ _ _
     (extended _ _ _ _ _ _ (λ _. ap app_of c.of.ensures ∙ bare) c.with_scenarios-tool.ensures.kept c.with_scenarios-tool.ensures.app)
     c.with_bundles-tool.ensures.kept c.with_bundles-tool.ensures.app)
-    c.with_preparing.ensures.kept c.with_preparing.ensures.app)
+    c.with_preparing-tool.ensures.kept c.with_preparing-tool.ensures.app)
+    c.with_telling.ensures.kept c.with_telling.ensures.app)

@@ -7,8 +7,10 @@ use Rattle.gen_node.specs.declared.stages.Stage.{Stage}
 use Rattle.gen_node.specs.declared.stages.Stage.TheVariants.{Open}
 use Rattle.gen_node.specs.Frame.{WireFrame, IsFrame, IsParcel, frame_spelling}
 use Rattle.gen_node.specs.Held.{frame_in}
+use Rattle.gen_node.specs.Longest.{IsInBounds}
 use Rattle.gen_node.specs.Node.{Node, awaits, frame_to, header_at, neighbours_at}
 use Rattle.gen_node.specs.Loops.Kept.{IsNode, log_begun}
+use Rattle.gen_node.proofs.LongestFrames.{sent_in_bounds}
 use Rattle.gen_node.proofs.Rows.{frame_mapped}
 use Rattle.gen_node.proofs.ShortFrames.{few_parcels, short_parcels}
 use Rattle.gen_node.proofs.Steps.{awaits_both}
@@ -29,7 +31,10 @@ returns c =
       front = record { run_id = run j; round = c.round.ensures j; from = from j; to = c.get-2.ensures.value j };
       parcels = parcels j;
     } in
-    subst (λ (f : WireFrame). IfOk c.spelled.result (λ bytes. Spells IsFrame frame_spelling bytes.items f)) (same ∙ ap (λ (m : Node). frame_to m.recorder to) c.self.view_is) c.spelled.ensures.ok
+    record {
+      frame = subst (λ (f : WireFrame). IfOk c.spelled.result (λ bytes. Spells IsFrame frame_spelling bytes.items f)) (same ∙ ap (λ (m : Node). frame_to m.recorder to) c.self.view_is) c.spelled.ensures.ok;
+      bounds = subst (λ (m : Node). IsInBounds (header_at m.recorder) (frame_to m.recorder to)) c.self.view_is (sent_in_bounds i.recorder (log_begun i.recorder.standing.known) to at.unscripted at.acts (subst IsFrame same c.spelled.ensures.fits));
+    }
 
 pub spelled-requires : goal.spelled-requires
 spelled-requires c =

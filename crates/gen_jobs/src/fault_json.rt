@@ -1,0 +1,40 @@
+//! The line of JSON of a fault.
+ghost use Rattle.std.specs.Prelude.{◌≡◌, IfOk, option_map};
+ghost use Rattle.gen_json.specs.Line.{json_line};
+ghost use Rattle.gen_jobs.specs.InputKinds.{fault_data, kind_words};
+
+use crate::ends::JobFault;
+use crate::fault_lines::job_fault_line;
+use crate::input_kinds::InputKind;
+use gen_json::print_failure_json;
+use std::alloc::{AllocError, Global};
+
+/// Returns the words for a kind, if there is one.
+fn words_of(kind: Option<InputKind>) -> Option<&'static str>
+    ensures { option_map (λ t. t.now) result ≡ option_map kind_words kind }
+{
+    match kind {
+        Some(kind) => Some(kind.words()),
+        None => None,
+    }
+}
+
+/// Returns the line of JSON of a fault: the line that the program writes to standard error, the kind of the input by its
+/// first bytes and the name of its file, if there are any, and the exit status.
+///
+/// # Errors
+///
+/// `AllocError` if memory is refused.
+pub fn job_fault_json(
+    alloc: Global,
+    fault: JobFault,
+    name: Option<&str>,
+    kind: Option<InputKind>,
+) -> Result<Vec<u8>, AllocError>
+    ensures { IfOk result (λ line. line.items
+        ≡ json_line (fault_data fault (option_map (λ t. t.now) name.entry) kind)) }
+{
+    let status = fault.status();
+    let line = job_fault_line(alloc, fault)?;
+    print_failure_json(alloc, line.as_str(), words_of(kind), name, status)
+}

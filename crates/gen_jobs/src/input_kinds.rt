@@ -1,0 +1,111 @@
+//! The kind of an input, by its first bytes.
+ghost use Rattle.std.specs.Prelude.{◌≡◌, option_map};
+ghost use Rattle.gen_show.specs.Showing.{begins_header};
+ghost use Rattle.gen_jobs.specs.InputKinds.{begins_text, begins_with, kind_command, kind_of, kind_words, text_kind};
+
+/// The kind of an input, as its first bytes say it. The rest may be anything.
+#[derive(Clone, Copy, Debug, PartialEq, Eq)]
+pub enum InputKind {
+    /// A bundle: it begins with `SMB1` or `SMB2`.
+    Bundle,
+    /// A campaign of several runs: it begins with `SMC2`.
+    Campaign,
+    /// Evidence: it begins with `SME1` or `SME2`.
+    Evidence,
+    /// A frame of a node: it begins with `SMF1`.
+    Frame,
+    /// A header: its first byte is 1 or 2.
+    Header,
+    /// The text of a scenario, or of a header: it begins with `generals` and a space.
+    ScenarioText,
+    /// The text of a campaign: it begins with `campaign` and a space.
+    CampaignText,
+}
+
+/// Returns whether bytes begin with these four.
+fn begins_with(mark: &[u8], bytes: &[u8]) -> bool
+    ensures { result ≡ begins_with mark.now bytes.now }
+{
+    &bytes[..bytes.len().min(4)] == mark
+}
+
+/// Returns whether bytes begin with this word and the space behind it, nine bytes together.
+fn begins_text(word: &[u8], bytes: &[u8]) -> bool
+    ensures { result ≡ begins_text word.now bytes.now }
+{
+    &bytes[..bytes.len().min(9)] == word
+}
+
+/// Returns whether the first byte is that of a header.
+fn begins_header(bytes: &[u8]) -> bool
+    ensures { result ≡ begins_header bytes.now }
+{
+    match bytes {
+        [first, ..] => *first == 1 || *first == 2,
+        [] => false,
+    }
+}
+
+/// Returns the kind of a text, and None if it is neither that of a scenario nor that of a campaign.
+fn text_kind(bytes: &[u8]) -> Option<InputKind>
+    ensures { result ≡ text_kind bytes.now }
+{
+    if begins_text(b"generals ", bytes) {
+        Some(InputKind::ScenarioText)
+    } else if begins_text(b"campaign ", bytes) {
+        Some(InputKind::CampaignText)
+    } else {
+        None
+    }
+}
+
+/// Returns the kind of an input, of which these are all bytes, or the first nine or more. None if they are those of no
+/// kind.
+pub fn input_kind(first: &[u8]) -> Option<InputKind>
+    ensures { result ≡ kind_of first.now }
+{
+    if begins_with(b"SMB1", first) || begins_with(b"SMB2", first) {
+        Some(InputKind::Bundle)
+    } else if begins_with(b"SMC2", first) {
+        Some(InputKind::Campaign)
+    } else if begins_with(b"SME1", first) || begins_with(b"SME2", first) {
+        Some(InputKind::Evidence)
+    } else if begins_with(b"SMF1", first) {
+        Some(InputKind::Frame)
+    } else if begins_header(first) {
+        Some(InputKind::Header)
+    } else {
+        text_kind(first)
+    }
+}
+
+impl InputKind {
+    /// Returns the words for this kind, as `scenario text`.
+    pub fn words(self) -> &'static str
+        ensures { result.now ≡ kind_words self }
+    {
+        match self {
+            InputKind::Bundle => "bundle",
+            InputKind::Campaign => "campaign",
+            InputKind::Evidence => "evidence",
+            InputKind::Frame => "frame",
+            InputKind::Header => "header",
+            InputKind::ScenarioText => "scenario text",
+            InputKind::CampaignText => "campaign text",
+        }
+    }
+
+    /// Returns the first command that reads this kind. No command reads a frame.
+    pub fn command(self) -> Option<&'static str>
+        ensures { option_map (λ t. t.now) result ≡ kind_command self }
+    {
+        match self {
+            InputKind::Bundle | InputKind::Campaign => Some("audit"),
+            InputKind::Evidence => Some("evidence"),
+            InputKind::Frame => None,
+            InputKind::Header => Some("show"),
+            InputKind::ScenarioText => Some("decide"),
+            InputKind::CampaignText => Some("campaign"),
+        }
+    }
+}

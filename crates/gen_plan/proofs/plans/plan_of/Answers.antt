@@ -1,0 +1,10 @@
+use Rattle.gen_plan.proofs.Cuts.{not_withstood}
+use Rattle.gen_plan.proofs.plans.plan_of.Goals as goal
+
+pub returns-in_default : goal.returns-in_default
+returns-in_default c = rw (c.of-graph.ensures, c.traitors-traitors.ensures, c.diameter-diameter.ensures) at c.in_default.ensures.none
+
+pub least_diameter-requires-clause-fails : goal.least_diameter-requires-clause-fails
+least_diameter-requires-clause-fails c =
+    let cut = c.in-Some.ensures.some in
+    not_withstood c.of-graph.result c.diameter-diameter.result c.in-Some.cut.faulty c.in-Some.cut.a c.in-Some.cut.b c.traitors-traitors.result cut.1 cut.0

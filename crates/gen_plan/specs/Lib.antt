@@ -1,0 +1,6 @@
+pub mod EqualRoots
+pub mod Longest
+pub mod Loops
+pub mod PlanResults
+pub mod Plans
+pub mod Sizes

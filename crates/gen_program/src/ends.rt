@@ -1,0 +1,91 @@
+//! What is told of how a job ended, on standard error and as JSON on standard output, and the exit status of its end.
+ghost use Rattle.std.specs.Prelude.{◌≡◌};
+ghost use Rattle.gen_jobs.specs.Ends.{status_of};
+ghost use Rattle.gen_jobs.specs.declared.ends.JobEnd.{JobEnd};
+
+use crate::details::{Detail, Seen, detail_of};
+use crate::kinds::answers_in_json;
+use crate::reading::Failure;
+use gen_jobs::{Job, JobEnd, JobFault, Output, input_kind, job_fault_json, write_output};
+use std::io;
+
+/// Writes the line of a job's fault to standard error, if the job failed, and what is told of it behind the line. Returns
+/// the exit status of the job's end.
+pub(crate) fn end_with<R: Eprint>(rt: &R, end: JobEnd, detail: Option<Detail<'_>>) -> u8
+    ensures { result ≡ status_of end }
+{
+    if let Some(fault) = end.fault() {
+        let _ = eprintln!(rt; "{fault}");
+        if let Some(detail) = detail {
+            let _ = eprintln!(rt; "{detail}");
+        }
+    }
+    end.status()
+}
+
+/// Writes the line of JSON of a fault to standard output. Its input begins with these bytes, and has the name of its file,
+/// if it is one. Nothing is written if memory is refused.
+fn write_fault<R: AllocGlobal + Print>(rt: &R, fault: JobFault, name: Option<&str>, front: &[u8]) {
+    if let Ok(text) = job_fault_json(rt.alloc(), fault, name, input_kind(front)) {
+        let output = Output {
+            text,
+            negative: false,
+        };
+        let _ = write_output(&mut io::writer(rt), &output);
+    }
+}
+
+/// Tells how a job ended of which this was seen, and returns the exit status of its end.
+pub(crate) fn finish_seen<R: AllocGlobal + Print + Eprint>(
+    rt: &R,
+    job: &Job,
+    name: Option<&str>,
+    end: JobEnd,
+    seen: &Seen<'_>,
+) -> u8
+    ensures { result ≡ status_of end }
+{
+    let Some(fault) = end.fault() else {
+        return end_with(rt, end, None);
+    };
+    // Some of the output may be written where a write failed.
+    if answers_in_json(job) && fault != JobFault::Write {
+        write_fault(rt, fault, name, seen.front);
+    }
+    end_with(rt, end, detail_of(job, fault, seen))
+}
+
+/// Tells why the file of a job was not opened, and returns the exit status.
+pub(crate) fn finish_unopened<R: AllocGlobal + Print + Eprint>(
+    rt: &R,
+    job: &Job,
+    name: &str,
+    error: io::Error,
+) -> u8
+    ensures { (end : JobEnd) × (result ≡ status_of end) }
+{
+    let failure = Failure::of_open(name, error);
+    if answers_in_json(job) {
+        write_fault(rt, failure.fault, Some(name), &[]);
+    }
+    fail_with(rt, &failure)
+}
+
+/// Tells a failure, and returns the exit status.
+pub(crate) fn fail_with<R: Eprint>(rt: &R, failure: &Failure<'_>) -> u8
+    ensures { (end : JobEnd) × (result ≡ status_of end) }
+{
+    end_with(rt, JobEnd::Failed(failure.fault), failure.detail)
+}
+
+/// Tells how the writing of an output ended, by why its last write failed, if it did. Returns the exit status.
+pub(crate) fn end_written<R: Eprint>(rt: &R, end: JobEnd, failure: Option<io::Error>) -> u8
+    ensures { result ≡ status_of end }
+{
+    let detail = if end == JobEnd::Failed(JobFault::Write) {
+        Some(Detail::of_write(failure))
+    } else {
+        None
+    };
+    end_with(rt, end, detail)
+}

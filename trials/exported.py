@@ -1,0 +1,271 @@
+"""Each call of the library for C, as embed/sm_embed.h declares it: made by the native library, and by the module of a page in
+Node. A call that the header gets anew is tried as the others are.
+"""
+import ctypes
+import hashlib
+import itertools
+import json
+import os
+import re
+import subprocess
+import sys
+import time
+
+from bends import bend_bundle, bend_bytes, bend_evidence, bend_text
+from campaigns import bytes_of, slot_twice
+from draws import Draws
+from layout import MARK, Bundle, front_length
+from pinned import FILES, nearly, read
+from programs import run, side_by_side
+from refusals import EXAMPLES
+from scenarios import sixteen
+
+HERE = os.path.dirname(os.path.abspath(__file__))
+TOP = os.path.dirname(HERE)
+EMBED = os.path.join(TOP, "embed")
+sys.path.insert(0, os.path.join(TOP, "tools"))
+from abi import functions_of_header  # noqa: E402
+ARCHIVE = os.path.join(TOP, "crates", "sm_embed", "out", "libsm_embed.a")
+FILLED = b"\xa5"
+# A room that is too short for most texts, the bytes of a run id, and how much is shown of what came.
+ROOM, ID_BYTES, SHOWN = 64, 32, 60
+# What is given for a number of each name, and for one of another name.
+NUMBERS = {"general": [0, 1, 2, 15, 16], "strict": [0, 1], "form": [0, 1, 2]}
+OTHERS = [0, 1, 2, 16]
+OK, NO, LENGTH, OTHER = 0, 1, 5, 7
+OTHER_LINE = b"fault R1"
+KINDS = "12345"
+# So many bent files are drawn, and so many cases are given to one Node.
+BENT, AT_ONCE = 300, 400
+# The bent files follow from the date, or from what this variable of the environment has.
+SEED = "PAGE_SEED"
+
+
+def kind_of(name, said):
+    """What a parameter of the header stands for, by its name and type. None for a length, which goes with the pointer before it."""
+    if name.endswith(("_bytes", "count")):
+        return None
+    return "number" if said == "uint32_t" else name if name in ("runs", "room", "answer") else "input"
+
+
+def declared():
+    """What each call takes that makes a text of an input, in its order: pairs of a kind and a name."""
+    functions = functions_of_header("sm_embed")
+    kinds = {name: [(kind_of(*it), it[0]) for it in parameters] for name, (parameters, _) in functions.items()}
+    return {name: [it for it in takes if it[0]] for name, takes in kinds.items() if "input" in dict(takes)}
+
+
+CALLS = declared()
+OF_RUNS = [name for name, takes in CALLS.items() if ("runs", "runs") in takes]
+# Of these the calls that take evidence, and those that take any file; the others take bundles and campaigns.
+OF_EVIDENCE, OF_ALL = ("sm_evidence_of", "sm_evidence_as"), ("sm_show_as",)
+
+
+# The native library.
+
+
+def build_shared(folder):
+    """The library with the heap of embed/, as a shared one."""
+    made = os.path.join(folder, "libsm_embed.so")
+    words = ["cc", "-std=c11", "-O2", "-fPIC", "-shared", os.path.join(EMBED, "heap.c"), "-Wl,--whole-archive", ARCHIVE]
+    subprocess.run([*words, "-Wl,--no-whole-archive", "-o", made], check=True)
+    return made
+
+
+class Native:
+    """The calls of a shared library."""
+
+    def __init__(self, shared):
+        self.calls = ctypes.CDLL(shared)
+
+    def end(self, name, *parts):
+        """What a call comes to: the number, the count, and the whole room, which is filled before, or what the answer holds. The
+        count is -1 if nothing is held.
+        """
+        words, count, answer, room = [], ctypes.c_size_t(0), ctypes.c_void_p(None), None
+        for kind, it in parts:
+            if kind == "number":
+                words.append(ctypes.c_uint32(it))
+            elif kind == "answer":
+                words.append(ctypes.byref(answer))
+            elif kind == "room":
+                room = ctypes.create_string_buffer(FILLED * it + b"\0")
+                words += [room, ctypes.c_size_t(it), ctypes.byref(count)]
+            else:
+                words += [it, ctypes.c_size_t(len(it) // (ID_BYTES if kind == "runs" else 1))]
+        status = self.calls[name](*words)
+        return (status, *self.held(answer)) if room is None else (status, count.value, room.raw[:-2])
+
+    def held(self, answer):
+        """The count and the text of an answer, which holds nothing then."""
+        own, count, text = ctypes.byref(answer), ctypes.c_size_t(0), b""
+        if not answer.value:
+            return -1, text
+        self.calls.sm_answer_text(own, b"", ctypes.c_size_t(0), ctypes.byref(count))
+        room = ctypes.create_string_buffer(count.value + 1)
+        self.calls.sm_answer_text(own, room, count, ctypes.byref(count))
+        self.calls.sm_answer_free(own)
+        return count.value, room.raw[: count.value]
+
+
+# Cases. A case is the name of a call and what it takes, each as a pair of a kind and a value.
+
+
+def cases_on(given, seconds=(b"",), lists=(b"",), numbers=None, names=CALLS):
+    """Each call on an input: of each list of run ids, with each number, and with each second input if it takes two."""
+    for name in names:
+        inputs, every = [[given], seconds], []
+        for kind, of in CALLS[name]:
+            fixed = {"runs": lists, "room": [ROOM], "answer": [0]}
+            values = (numbers or NUMBERS).get(of, OTHERS) if kind == "number" else inputs.pop(0) if kind == "input" else fixed[kind]
+            every.append([(kind, it) for it in values])
+        yield from ([name, *chosen] for chosen in itertools.product(*every))
+
+
+def own_runs(native, given):
+    """The ids of the runs that a file is of, by the library; one of zeros if it is of none."""
+    status, count, room = native.end("sm_run_id", ("input", given), ("room", 4 * ID_BYTES))
+    return room[:count] if status == OK else bytes(ID_BYTES)
+
+
+def takes_file(name, given):
+    """Whether a call takes files of this kind."""
+    return name in OF_ALL or (name in OF_EVIDENCE) == given.startswith(b"SME")
+
+
+def pinned_on(native, given, lists):
+    """The calls that take a file with run ids, of each of these lists."""
+    numbers = {"general": [0], "strict": [0, 1], "form": [0, 1]}
+    return cases_on(given, lists=lists, numbers=numbers, names=[name for name in OF_RUNS if takes_file(name, given)])
+
+
+def near_cases(native, given):
+    """Calls with run ids that differ in few bytes from those of a file, which is so of another run."""
+    runs = re.findall(r".{64}", own_runs(native, given).hex())
+    return list(pinned_on(native, given, [bytes.fromhex("".join(near)) for near in nearly(runs)]))
+
+
+def bent_file(draws, bases, number):
+    """A bent bundle, bent evidence, or else a bent campaign, header or text."""
+    bundle = draws.one_of(bases.bundles)
+    if number % 3 == 0:
+        return bend_bundle(draws, bundle)
+    if number % 3 == 1:
+        return bend_evidence(draws, draws.one_of(bases.evidence))
+    if draws.is_one_in(2):
+        return bend_text(draws, draws.one_of(bases.texts))
+    return bend_bytes(draws, draws.one_of([read("series.bundles"), bundle[MARK : front_length(bundle)]]))
+
+
+def bent_cases(native, bases, seed):
+    """The bent files of a seed, each with one case of each call."""
+    draws = Draws(seed)
+    for number in range(BENT):
+        given = bent_file(draws, bases, number)
+        own = own_runs(native, given)
+        log = draws.one_of(Bundle(draws.one_of(bases.bundles)).exhibits or [(0, b"")])[1]
+        every = itertools.groupby(cases_on(given, [log], [b"", own, bytes([own[0] ^ 1]) + own[1:]]), key=lambda case: case[0])
+        yield from [draws.one_of(list(cases)) for _, cases in every]
+
+
+def evidence_by_kind(program, native, bases):
+    """A piece of evidence of each of the five kinds, by a name, of which the library shows the kind."""
+    across = bytes_of(*slot_twice(program))
+    found = [*bases.evidence, *(run(program, ["accuse", "--general", general], across).wrote for general in "01")]
+    shown = lambda given: native.end("sm_show", ("input", given), ("answer", 0))[2]
+    kinds = {re.search(rb"^kind (\d)", shown(it), re.M)[1].decode(): it for it in found if it}
+    return {f"evidence of kind {kind}": kinds[kind] for kind in KINDS}
+
+
+def whole_cases(native, evidence, logs):
+    """Each file of examples/ and each piece of evidence, with all calls."""
+    names = sorted(name for name in os.listdir(EXAMPLES) if os.path.isfile(os.path.join(EXAMPLES, name)))
+    for given in [b"", *map(read, names), *evidence]:
+        yield from cases_on(given, logs, [b"", own_runs(native, given), bytes(5 * ID_BYTES)])
+
+
+# Native and in Node.
+
+
+def as_told(status, count, text):
+    """What a case comes to, as page_calls.mjs tells it."""
+    return [status, count, hashlib.sha256(text).hexdigest(), text[:SHOWN].decode("latin1")]
+
+
+def with_ends(native, cases):
+    """Cases with what they natively come to. A call whose room is too short is one more case, with room enough."""
+    for name, *parts in cases:
+        end = native.end(name, *parts)
+        yield [name, *parts], as_told(*end)
+        if end[0] == LENGTH:
+            parts = [(kind, end[1] if kind == "room" else it) for kind, it in parts]
+            yield [name, *parts], as_told(*native.end(name, *parts))
+
+
+def spelled(cases):
+    """Cases as page_calls.mjs reads them: each text stands once."""
+    texts = {}
+    number = lambda kind, it: texts.setdefault(it, len(texts)) if kind in ("runs", "input") else it
+    told = [[name, *([kind, number(kind, it)] for kind, it in parts)] for name, *parts in cases]
+    return json.dumps({"lengths": list(map(len, texts)), "cases": told}).encode() + b"\n" + b"".join(texts)
+
+
+def asked(words, cases):
+    """What the module comes to in each case (`ends`), and the version of its library. The words start Node with page_calls.mjs."""
+    told = subprocess.run(words, input=spelled(cases), capture_output=True, check=False)
+    if told.returncode:
+        raise RuntimeError(f"Node ended with {told.returncode}: {told.stderr[-500:].decode(errors='replace')}")
+    return json.loads(told.stdout)
+
+
+def first_other(cases, ends, wanted):
+    """None where each case comes to what is wanted, else the first that comes to something else."""
+    if len(ends) != len(wanted):
+        return f"{len(ends)} ends of {len(wanted)} cases"
+    spell = lambda case: " ".join([case[0], *(it.hex()[:256] if kind == "runs" else str(it)[:40] for kind, it in case[1:])])
+    other = (f"{spell(case)}: {end} in place of {want}" for case, end, want in zip(cases, ends, wanted) if end != want)
+    return next(other, None)
+
+
+def compare(native, words, cases):
+    """None where the module comes to what the native library comes to in all cases, else the first difference."""
+    asks, wanted = zip(*with_ends(native, cases))
+    pieces = [asks[at : at + AT_ONCE] for at in range(0, len(asks), AT_ONCE)]
+    found = side_by_side(lambda piece: asked(words, piece)["ends"], pieces)
+    return first_other(asks, [end for ends in found for end in ends], wanted)
+
+
+def near_wrong(native, given):
+    """None where the native library says of each near run that the file is of another, and of its own that it is not; else what is
+    wrong.
+    """
+    own = pinned_on(native, given, [own_runs(native, given)])
+    ends = [(case[0], native.end(*case)) for case in near_cases(native, given)]
+    wrong = [f"{name}, a near run: {end}" for name, end in ends if end != (OTHER, len(OTHER_LINE), OTHER_LINE)]
+    wrong += [f"{case[0]}, its own run: {end}" for case, end in ((it, native.end(*it)) for it in own) if end[0] not in (OK, NO)]
+    return wrong[0][:300] if wrong else None
+
+
+# The trials.
+
+
+def call_cases(program, native, bases, seed):
+    """What all calls are asked about, by a name for each group of cases."""
+    kinds, logs = evidence_by_kind(program, native, bases), dict(Bundle(read("split.bundle")).exhibits)
+    yield "examples, and evidence of each kind", list(whole_cases(native, kinds.values(), [logs[0], logs[1], b""]))
+    for name, given in [*((name, read(name)) for name in FILES), *kinds.items()]:
+        yield f"near runs of {name}", near_cases(native, given)
+    large = run(program, ["run"], sixteen()).wrote
+    few = {"general": [0], "strict": [0], "form": [0, 1]}
+    yield "a bundle of 16 generals", list(cases_on(large, lists=[own_runs(native, large)], numbers=few))
+    yield f"bent files of the seed {seed}", list(bent_cases(native, bases, f"page {seed}"))
+
+
+def try_calls(program, words, bases, tally, folder):
+    """All calls of the library, by a module of the page's code that exports them all, beside the native library."""
+    native, seed = Native(build_shared(folder)), os.environ.get(SEED, time.strftime("%Y-%m-%d"))
+    tally.note(f"the files that all calls are asked about are bent by the seed {seed}: {SEED}={seed} in the environment bends the same")
+    versions = asked(words, [])["version"], native.calls.sm_version()
+    tally.hold("the version", None if versions[0] == versions[1] else f"{versions}")
+    for name, cases in call_cases(program, native, bases, seed):
+        tally.hold(f"all calls, {name}", compare(native, words, cases))
