@@ -4,6 +4,7 @@ pub mod Graphs
 pub mod Joined
 pub mod MostNeighbours
 pub mod Pairs
+pub mod Parting
 pub mod Sets
 pub mod Sharing
 pub mod Short

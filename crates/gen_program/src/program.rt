@@ -10,7 +10,7 @@ use crate::blaming::{given_value, parts_of, show_usage};
 use crate::built::Built;
 use crate::details::{Detail, STANDARD_INPUT, Seen};
 use crate::ends::{end_with, end_written, fail_with, finish_seen, finish_unopened};
-use crate::naming::do_and_name;
+use crate::naming::do_and_tell;
 use crate::reading::{answer_files, join_files, tell_waiting};
 use crate::several::{Several, read_several};
 use crate::sources::{Source, source_of};
@@ -202,8 +202,8 @@ fn finish_over<R: AllocGlobal + Print + Eprint + Threads + Wait + Sync, S: Read>
     let mut output = io::writer(rt);
     let mut reader = WatchedReader::new(reader);
     let mut writer = WatchedWriter::new(&mut output);
-    let end = if prints_runs {
-        do_and_name(rt, job, &mut reader, &mut writer)
+    let end = if prints_runs || matches!(job, Job::Header { version: _ }) {
+        do_and_tell(rt, job, prints_runs, &mut reader, &mut writer)
     } else {
         do_job(rt, rt.alloc(), *job, name, &mut reader, &mut writer)
     };
