@@ -1,7 +1,8 @@
 //! Jobs that print the ids of their runs.
-ghost use Rattle.gen_jobs.specs.Ranges.{IsInRange};
+ghost use Rattle.gen_asked.specs.Ranges.{IsInRange};
 
-use gen_jobs::{Job, JobEnd, JobFault, Output, do_job, name_file, write_output};
+use gen_asked::Job;
+use gen_jobs::{JobEnd, JobFault, Output, do_job, name_file, write_output};
 use std::io::{Read, Write};
 use std::sync::Wait;
 use std::thread::Threads;
