@@ -7,10 +7,10 @@ use Rattle.gen_show.specs.Table.{words}
 use Rattle.gen_show.specs.Worded.{explained, worded}
 use Rattle.gen_jobs.specs.declared.ends.JobFault.{JobFault}
 use Rattle.gen_jobs.specs.declared.ends.JobFault.TheVariants as faults
-use Rattle.gen_jobs.specs.declared.forms.Form.{Form}
-use Rattle.gen_jobs.specs.declared.forms.Form.TheVariants.{Text, Json}
-use Rattle.gen_jobs.specs.declared.telling.Telling.{Telling}
-use Rattle.gen_jobs.specs.declared.telling.Telling.TheVariants as tellings
+use Rattle.gen_asked.specs.declared.forms.Form.{Form}
+use Rattle.gen_asked.specs.declared.forms.Form.TheVariants.{Text, Json}
+use Rattle.gen_asked.specs.declared.telling.Telling.{Telling}
+use Rattle.gen_asked.specs.declared.telling.Telling.TheVariants as tellings
 
 -- the text says in a form, line by line, what the bytes are
 abbrev pub SaysFile : Form → List ℕ → List ℕ → Type 0

@@ -6,11 +6,11 @@ ghost use Rattle.gen_jobs.specs.Answering.{Answers};
 ghost use Rattle.gen_jobs.specs.Ends.{IsTaken, KeepsUntilWhole};
 ghost use Rattle.gen_jobs.specs.Showing.{AreAskedOf, IsShownFault, IsShownIn, runs_as};
 
-use crate::asked_runs::{AskedRuns, run_ids};
 use crate::ends::{JobEnd, JobFault, Output};
-use crate::forms::Form;
+use crate::run_ids::run_ids;
 use crate::telling::tell_file;
 use crate::transfer::{deliver, read_all};
+use gen_asked::{AskedRuns, Form};
 use gen_campaign::read_campaign;
 use gen_convict::read_evidence;
 use gen_net::read_header;
