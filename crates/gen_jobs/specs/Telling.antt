@@ -1,7 +1,9 @@
 -- What the job that tells makes of its input: what a file is, what a name means, or what the lines of a text
 -- mean.
 use Rattle.std.specs.Prelude.{ℕ, ◌≡◌, Bool, true, false, not, List, [], Option, Some, None}
-use Rattle.gen_show.specs.Showing.{IsTextAs, file_kind, is_whole_as}
+use Rattle.gen_file.specs.Kinds.{file_kind}
+use Rattle.gen_campaign.specs.WholeFile.{is_whole_as}
+use Rattle.gen_show.specs.Showing.{IsTextAs}
 use Rattle.gen_json.specs.ShowingLines.{IsJsonAs}
 use Rattle.gen_show.specs.Table.{words}
 use Rattle.gen_show.specs.Worded.{explained, worded}

@@ -1,7 +1,7 @@
 //! The job `show`: writes what a file is, of the runs that are asked for.
 ghost use Rattle.std.specs.Prelude.{◌≡◌, IfErr, IfOk, IfSome, option_map};
 ghost use Rattle.std.specs.Bool.{Decides};
-ghost use Rattle.gen_show.specs.Showing.{file_kind};
+ghost use Rattle.gen_file.specs.Kinds.{file_kind};
 ghost use Rattle.gen_jobs.specs.Answering.{Answers};
 ghost use Rattle.gen_jobs.specs.Ends.{IsTaken, KeepsUntilWhole};
 ghost use Rattle.gen_jobs.specs.Showing.{AreAskedOf, IsShownFault, IsShownIn, runs_as};
@@ -13,8 +13,8 @@ use crate::transfer::{deliver, read_all};
 use gen_asked::{AskedRuns, Form};
 use gen_campaign::read_campaign;
 use gen_convict::read_evidence;
+use gen_file::{FileKind, file_kind};
 use gen_net::read_header;
-use gen_show::{FileKind, file_kind};
 use gen_types::ReadError;
 use std::alloc::{AllocError, Global};
 use std::io::{Read, Write};

@@ -1,4 +1,4 @@
--- How long the parts of a bundle and of a campaign are.
+-- How long the parts of a bundle are.
 use Rattle.std.proofs.Common.{◌≡◌, ℕ, ◌+◌, List, [], ◌∷◌, ◌++◌, length, refl, sym, ap, ◌∙◌, append_assoc, arith}
 use Rattle.std.specs.Prelude.{sum_by}
 use Rattle.std.specs.Int.{w32, to_be_bytes}
@@ -9,7 +9,7 @@ use Rattle.std.proofs.lemmas.List.Sums.{sum_by-cons}
 use Rattle.gen_log.specs.Writing.{LogBytes}
 use Rattle.gen_audit.specs.Bundle.{Bundle}
 use Rattle.gen_audit.specs.BundleSpelling.{bundle_spelling, exhibit_spelling}
-use Rattle.gen_show.specs.BundleText.{bundle_front, bundle_front_length, bundle_length, exhibit_length}
+use Rattle.gen_file.specs.Parts.{bundle_front, bundle_front_length, bundle_length, exhibit_length}
 
 length_exhibit : (x : LogBytes) → length (exhibit_spelling x) ≡ exhibit_length x
 length_exhibit x =

@@ -8,11 +8,11 @@ use Rattle.std.proofs.lemmas.List.Sums.{sum_by-cons}
 use Rattle.gen_types.specs.Spelled.{Spells}
 use Rattle.gen_audit.specs.Bundle.{Bundle}
 use Rattle.gen_audit.specs.BundleSpelling.{bundle_spelling}
+use Rattle.gen_file.specs.Parts.{bundle_length}
+use Rattle.gen_file.proofs.BundleLengths.{length_bundle}
 use Rattle.gen_campaign.specs.Campaign.{CampaignBundle, IsCampaign}
 use Rattle.gen_campaign.specs.CampaignSpelling.{campaign_front, campaign_spelling, front_with}
-use Rattle.gen_show.specs.BundleText.{bundle_length}
-use Rattle.gen_show.specs.CampaignText.{HaveRoom}
-use Rattle.gen_show.proofs.BundleLengths.{length_bundle}
+use Rattle.gen_campaign.specs.CampaignParts.{HaveRoom}
 
 length_bundles : (bs : List Bundle) → length (flat_map bundle_spelling bs) ≡ sum_by bundle_length bs
 length_bundles [] = refl

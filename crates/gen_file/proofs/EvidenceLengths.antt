@@ -9,7 +9,7 @@ use Rattle.gen_local.specs.declared.texts.Text.TheVariants.{OfStatement}
 use Rattle.gen_convict.specs.Contradictions.{Claim, TwoTexts, TwoOrders, MissingFromLog, DepartingLog, AcrossRuns}
 use Rattle.gen_convict.specs.EvidenceReading.{IsWhole}
 use Rattle.gen_convict.specs.EvidenceSpelling.{evidence_marks, evidence_spelling, shown_spelling, text_spelling, whole_spelling}
-use Rattle.gen_show.specs.EvidenceText.{HasRoom, claim_log_at}
+use Rattle.gen_file.specs.Parts.{HasRoom, claim_log_at}
 
 -- a log in four bytes of its length and its bytes, behind a mark, a header, the accused and the kind
 log_within : (h : RunHeader) (accused kind : ℕ) (log rest bytes : List ℕ)

@@ -1,6 +1,6 @@
 //! The names of faults of headers and logs.
 ghost use Rattle.std.specs.Prelude.{◌≡◌, ◌++◌, OnOk, string_bytes};
-ghost use Rattle.gen_show.specs.FaultText.{fault_line, header_fault_name, log_fault_name};
+ghost use Rattle.gen_file.specs.FaultText.{header_fault_name, log_fault_name};
 
 use gen_log::LogFault;
 use gen_net::HeaderFault;
@@ -33,12 +33,4 @@ pub fn push_log_fault(out: &mut String, fault: LogFault) -> Result<(), AllocErro
         LogFault::Chain(_) => write!(out, "L{of_log} C{of_chain}"),
         _ => write!(out, "L{of_log}"),
     }
-}
-
-/// Appends the last line of what doesn't read.
-#[tactic(auto, unfolding(crate::specs::FaultText::fault_line))]
-pub fn push_fault(out: &mut String, name: &str, at: usize) -> Result<(), AllocError>
-    ensures { OnOk result (string_bytes out.new ≡ string_bytes out.old ++ fault_line name.now at) }
-{
-    write!(out, "fault {name} byte {at}\n")
 }

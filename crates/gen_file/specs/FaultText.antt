@@ -1,4 +1,4 @@
--- The names of faults in lines.
+-- The names of faults of headers and logs.
 use Rattle.std.specs.Prelude.{ℕ, List, [], ◌∷◌, ◌++◌, codes}
 use Rattle.std.specs.Fmt.{decimal}
 use Rattle.gen_net.specs.declared.fault.HeaderFault.{HeaderFault}
@@ -9,10 +9,6 @@ use Rattle.gen_log.specs.FaultNumbers.{log_fault_numbers}
 -- the name of a header's fault
 unfoldable pub header_fault_name : HeaderFault → List ℕ
 header_fault_name fault = codes "H" ++ decimal (header_fault_number fault)
-
--- the last line of what doesn't read: the name of its fault, and the byte up to which it is shown
-unfoldable pub fault_line : List ℕ → ℕ → List ℕ
-fault_line name at = codes "fault " ++ name ++ codes " byte " ++ decimal at ++ codes "\n"
 
 -- the numbers of a log's rule and of a chain's rule, as a text names them
 abbrev pub rules_named : List ℕ → List ℕ

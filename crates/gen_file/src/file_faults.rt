@@ -1,15 +1,18 @@
-//! The names of faults of whole files.
+//! The names of faults of bundles and of evidence.
 ghost use Rattle.std.specs.Prelude.{◌≡◌, ◌++◌, OnOk, string_bytes};
-ghost use Rattle.gen_show.specs.FileFaultText.{bundle_fault_name, campaign_fault_name, evidence_fault_name};
+ghost use Rattle.gen_file.specs.FileFaultText.{bundle_fault_name, evidence_fault_name};
 
 use crate::faults::push_header_fault;
 use gen_audit::BundleFault;
-use gen_campaign::CampaignFault;
 use gen_convict::EvidenceFault;
 use std::alloc::AllocError;
 
-/// Appends the name of a bundle's fault.
-fn push_bundle_fault(out: &mut String, fault: BundleFault) -> Result<(), AllocError>
+/// Appends the name of a bundle's fault, as `B3 H9`.
+///
+/// # Errors
+///
+/// `AllocError` if memory is refused; then what stands in `out` isn't said.
+pub fn push_bundle_fault(out: &mut String, fault: BundleFault) -> Result<(), AllocError>
     ensures { OnOk result
         (string_bytes out.new ≡ string_bytes out.old ++ bundle_fault_name fault) }
 {
@@ -27,28 +30,6 @@ fn push_bundle_fault(out: &mut String, fault: BundleFault) -> Result<(), AllocEr
         BundleFault::LeftOver => out.push_str("B8"),
         BundleFault::OutOfOrder => out.push_str("B9"),
         BundleFault::LongLog => out.push_str("a log is too long"),
-    }
-}
-
-/// Appends the name of a campaign's fault, as `M3 run 1 B7`; that of a bundle that stands alone is the bundle's.
-///
-/// # Errors
-///
-/// `AllocError` if memory is refused; then what stands in `out` isn't said.
-pub fn push_campaign_fault(out: &mut String, fault: CampaignFault) -> Result<(), AllocError>
-    ensures { OnOk result
-        (string_bytes out.new ≡ string_bytes out.old ++ campaign_fault_name fault) }
-{
-    match fault {
-        CampaignFault::NoCount => out.push_str("M1"),
-        CampaignFault::RunCount => out.push_str("M2"),
-        CampaignFault::BadRun(place, inner) => {
-            write!(out, "M3 run {place} ")?;
-            push_bundle_fault(out, inner)
-        }
-        CampaignFault::Unjoined => out.push_str("M4"),
-        CampaignFault::LeftOver => out.push_str("M5"),
-        CampaignFault::Alone(inner) => push_bundle_fault(out, inner),
     }
 }
 

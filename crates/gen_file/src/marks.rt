@@ -3,10 +3,10 @@ ghost use Rattle.std.specs.Prelude.{◌≡◌};
 ghost use Rattle.gen_net.specs.declared.marks.FrontFault.TheVariants.{Truncated};
 ghost use Rattle.std.specs.Int.{w32};
 ghost use Rattle.gen_types.specs.Bytes.{number_at};
-ghost use Rattle.gen_show.specs.Showing.{begins_header, file_kind, is_evidence_mark};
+ghost use Rattle.gen_file.specs.Kinds.{begins_header, file_kind, is_evidence_mark, version_number};
 
 use crate::kinds::FileKind;
-use gen_net::{FrontFault, Marks, VERSION_ONE, VERSION_TWO};
+use gen_net::{FrontFault, Marks, VERSION_ONE, VERSION_TWO, Version};
 use gen_types::u32_at;
 
 /// The first four bytes of evidence, `SME1` or `SME2`.
@@ -21,8 +21,18 @@ pub const BUNDLE_MARKS: Marks = Marks {
     two: 0x534d_4232,
 };
 
+/// Returns the number of a version, with which a header begins.
+pub fn version_number(version: Version) -> u8
+    ensures { result ≡ version_number version }
+{
+    match version {
+        Version::One => VERSION_ONE,
+        Version::Two { .. } => VERSION_TWO,
+    }
+}
+
 /// Returns whether the first byte is that of a header.
-fn begins_header(input: &[u8]) -> bool
+pub fn begins_header(input: &[u8]) -> bool
     ensures { result ≡ begins_header input.now }
 {
     match input {

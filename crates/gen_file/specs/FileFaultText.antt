@@ -1,13 +1,10 @@
--- The names of faults of whole files.
+-- The names of faults of bundles and of evidence.
 use Rattle.std.specs.Prelude.{ℕ, List, ◌++◌, codes}
-use Rattle.std.specs.Fmt.{decimal}
 use Rattle.gen_convict.specs.declared.evidence_fault.EvidenceFault.{EvidenceFault}
 use Rattle.gen_convict.specs.declared.evidence_fault.EvidenceFault.TheVariants as evidences
 use Rattle.gen_audit.specs.declared.bundle_fault.BundleFault.{BundleFault}
 use Rattle.gen_audit.specs.declared.bundle_fault.BundleFault.TheVariants as bundles
-use Rattle.gen_campaign.specs.declared.campaign_fault.CampaignFault.{CampaignFault}
-use Rattle.gen_campaign.specs.declared.campaign_fault.CampaignFault.TheVariants as campaigns
-use Rattle.gen_show.specs.FaultText.{header_fault_name}
+use Rattle.gen_file.specs.FaultText.{header_fault_name}
 
 -- the name of a bundle's fault
 abbrev pub bundle_fault_name : BundleFault → List ℕ
@@ -21,17 +18,6 @@ bundle_fault_name bundles.BadExhibit = codes "B7"
 bundle_fault_name bundles.LeftOver = codes "B8"
 bundle_fault_name bundles.OutOfOrder = codes "B9"
 bundle_fault_name bundles.LongLog = codes "a log is too long"
-
--- the name of a campaign's fault, which has the place of a run if it is the run's; that of a bundle that
--- stands alone is the bundle's
-abbrev pub campaign_fault_name : CampaignFault → List ℕ
-campaign_fault_name campaigns.NoCount = codes "M1"
-campaign_fault_name campaigns.RunCount = codes "M2"
-campaign_fault_name (campaigns.BadRun place fault) =
-    codes "M3 run " ++ decimal place ++ codes " " ++ bundle_fault_name fault
-campaign_fault_name campaigns.Unjoined = codes "M4"
-campaign_fault_name campaigns.LeftOver = codes "M5"
-campaign_fault_name (campaigns.Alone fault) = bundle_fault_name fault
 
 -- the name of the fault of evidence
 abbrev pub evidence_fault_name : EvidenceFault → List ℕ
