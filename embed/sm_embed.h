@@ -123,8 +123,8 @@ uint32_t sm_run_id(const uint8_t *input, size_t input_bytes, uint8_t *room, size
     SM_CALL(1, 3, 5);
 
 /* The verdict on a bundle or a campaign of the runs that are expected, as sm_tool audit --run. If strict is not 0, an
-   answer that says `explained` is a no too, as by --strict. Returns SM_OK, SM_NO, SM_MISUSE, SM_FAULT, SM_MEMORY or
-   SM_OTHER. */
+   answer that says `explained` is a no too, and so is one on two generals with the same root, as by --strict. Returns
+   SM_OK, SM_NO, SM_MISUSE, SM_FAULT, SM_MEMORY or SM_OTHER. */
 uint32_t sm_audit_of(const uint8_t *runs, size_t run_count, uint32_t strict, const uint8_t *input, size_t input_bytes,
                      sm_answer *answer) SM_CALL(1, 4, 6);
 
