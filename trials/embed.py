@@ -26,7 +26,7 @@ from layout import Bundle, with_shared_root
 from pinned import FILES, answer_of, lists_of, nearly, pinned_cases, read, runs_of, told_cases
 from programs import End, by_library, differs, run, side_by_side, spell
 from refusals import EXAMPLES, OF_MEMORY, build as build_refusing, count_up, refused
-from scenarios import header_text, signed, sixteen
+from scenarios import chain, everybody, header_text, ring, scenario, signed, sixteen
 
 TOP = os.path.dirname(os.path.dirname(os.path.abspath(__file__)))
 EMBED = os.path.join(TOP, "embed")
@@ -248,17 +248,24 @@ def shown_cases(program):
     yield from ((["show", *asked, *form], header) for asked in ([], own) for form in ([], ["--json"]))
 
 
+def too_weak():
+    """Scenarios of networks that do not carry what is planned: d is too small, m is too great, or two generals are parted."""
+    nearly_all = [edge for edge in everybody(16) if edge != (3, 9)]
+    planned = [(chain(4), 0, 2), (chain(4), 1, 3), (ring(6), 1, 3), (ring(6), 2, 4), ([(0, 1), (2, 3)], 0, 1), (nearly_all, 8, 1)]
+    return [scenario(edges, traitors, diameter, 1) for edges, traitors, diameter in planned]
+
+
 def plan_cases(program):
     """Headers of which the plan holds or fails, as texts, in bytes, in bundles and in a campaign, whole and bent; other files."""
-    draws, texts = Draws("plans"), [header_text(text) for text in (*signed().values(), sixteen())]
+    draws, texts = Draws("plans"), [header_text(text) for text in (*signed().values(), *too_weak(), sixteen())]
     headers = [run(program, ["header", *slot], text).wrote for text in texts for slot in ([], ["--slot", "3"])]
     bundles = [run(program, ["run"], text).wrote for text in (signed()["no_walk"], signed(1)["ring"])]
     shared = re.sub(rb"root \w+", b"root " + b"00" * 32, texts[0]), headers[0][:-32] + headers[0][-64:-32]
     campaign = read("series.bundles")
     others = [b"", *shared, headers[0][:-1], headers[0] + b"\0", bundles[0][:-1], campaign[:-1], read("split.evidence")]
     others += [signed()["pair"], read("series.campaign")]
-    bent = [bend_text(draws, draws.one_of(texts[:-1])) for _ in range(HUNDRED)]
-    bent += [bend_bytes(draws, draws.one_of(headers[:-2])) for _ in range(HUNDRED)]
+    bent = [bend_text(draws, draws.one_of(texts[:-1])) for _ in range(HUNDRED // 2)]
+    bent += [bend_bytes(draws, draws.one_of(headers[:-2])) for _ in range(HUNDRED // 2)]
     return [(["plan"], given) for given in (*texts, *headers, *bundles, campaign, *others, *bent)]
 
 
