@@ -147,7 +147,7 @@ class Calls(unittest.TestCase):
 
     def test_walks(self):
         line = {"generals": 3, "traitors": 0, "diameter": 1, "orders": 2, "edges": [(0, 1), (1, 2)]}
-        header = vamuretu.header(version=1, roots=[bytes(32)] * 3, **line)
+        header = vamuretu.header(version=1, roots=[bytes([root] * 32) for root in range(3)], **line)
         self.assertEqual(fault_of(vamuretu.bundle, header, [1], []), NodeFault.U1)
         self.assertEqual(fault_of(vamuretu.bundle, header, [], []), NodeFault.U2)
         self.assertEqual(vamuretu.read_header(header.data), header)

@@ -140,10 +140,12 @@ mod tests {
     #[test]
     fn numbers_are_those_of_the_header() {
         let header = include_str!("../../sm_node.h");
-        for (name, fault) in
-            [("SM_LEFT_OVER = 12", LeftOver), ("SM_NO_GENERAL = 13", NoGeneral), ("SM_OTHER_ROOT = 14", OtherRoot),
-             ("SM_EQUAL_ROOTS = 15", EqualRoots)]
-        {
+        for (name, fault) in [
+            ("SM_LEFT_OVER = 12", LeftOver),
+            ("SM_NO_GENERAL = 13", NoGeneral),
+            ("SM_OTHER_ROOT = 14", OtherRoot),
+            ("SM_EQUAL_ROOTS = 15", EqualRoots),
+        ] {
             let number = name.rsplit(' ').next().expect("a number").parse().expect("a number");
             assert!(header.contains(name) && NodeFault::of_number(number) == Some(fault));
         }
