@@ -125,7 +125,8 @@ HandsBundle wanted bytes faulty logs old new count fault pair Length =
 HandsBundle wanted bytes faulty logs old new count fault pair Fault =
     IsUntouched old new count × (faulty < 2 ^ 16)
     × ((xs : List LogBytes) × (f : GatherFault) × (logs ≡ Some xs)
-    × IsGatherFault wanted bytes (members_of faulty) xs f × (fault ≡ gather_number f) × (pair ≡ gather_pair f))
+    × IsGatherFault wanted bytes (members_of faulty) xs f
+    × (fault ≡ gather_number f) × (pair ≡ gather_pair f))
 HandsBundle wanted bytes faulty logs old new count fault pair Memory =
     (fault ≡ 0) × (pair ≡ no_pair) × (faulty < 2 ^ 16) × IsUntouched old new count
 HandsBundle wanted bytes faulty logs old new count fault pair Misuse =
