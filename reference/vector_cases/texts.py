@@ -19,7 +19,7 @@ def scenario_lines(generals: int, edges: Sequence[Tuple[int, int]], **more: Any)
     numbers.update({word: value for word, value in more.items() if word in numbers})
     lines = [f"generals {generals}", *(f"edge {a} {b}" for a, b in edges)]
     lines += [f"{word} {value}" for word, value in numbers.items()]
-    lines += [f"{word} {more[word]}" for word in ("seed", "slot") if word in more]
+    lines += [f"{word} {more[word]}" for word in ("seed", "slot") if more.get(word) is not None]
     for general, script in sorted(more.get("scripts", {}).items()):
         lines += [f"script {general}", *script]
     return lines + ["end"]
