@@ -40,6 +40,8 @@ LEVEL_3 += [("libsm_node-v3.a", "sm_node", "lib/libsm_node-v3.a")]
 KEPT = ("README.md", "CHANGELOG.md", "INSTALL.md", "SECURITY.md", "LICENSE-MIT", "LICENSE-APACHE", "install.sh")
 FOLDERS = ("docs/", "examples/", "reference/", "embed/")
 LEFT_OUT = ("embed/page/", "embed/vamuretu-config", "reference/.")
+# The line of install.sh that reads a script, and this script: in the archive it stands in the place of the line.
+READS, READ = b'. "$here/tools/level_3.sh"\n', "tools/level_3.sh"
 COMPILED = ["-std=c11", "-O2", "-fPIC", "-Wall", "-Wextra", "-Werror"]
 LINKED = ["-shared", "-s", "-Wl,--build-id=none", "-Wl,-z,relro,-z,now"]
 X86_64 = 62
@@ -189,7 +191,7 @@ def make_tree(tree):
     named, seconds = commit()
     built = look_over()
     for name in kept_files():
-        write(f"{tree}/{name}", read(os.path.join(TOP, name)))
+        write(f"{tree}/{name}", read(os.path.join(TOP, name)).replace(READS, read(os.path.join(TOP, READ))))
     for name, _, place in built:
         write(f"{tree}/{place}", read(os.path.join(OUT, name)))
     put_pages(tree)
