@@ -125,7 +125,8 @@ def put_pages(tree):
 def put_libraries(tree):
     """The heap, and the shared libraries, each with its own heap and with the functions of its header alone to be seen."""
     with tempfile.TemporaryDirectory() as scratch:
-        shutil.copy(os.path.join(TOP, "embed", "heap.c"), scratch)
+        for name in ("heap.c", "sm_heap.h"):
+            shutil.copy(os.path.join(TOP, "embed", name), scratch)
         run("cc", *COMPILED, "-c", "heap.c", "-o", "heap.o", cwd=scratch)
         run("ar", "rcsD", "heap.a", "heap.o", cwd=scratch)
         write(f"{tree}/lib/libsm_embed_heap.a", read(f"{scratch}/heap.a"))
