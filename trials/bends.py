@@ -1,6 +1,6 @@
 """Turns, cuts, doubles and moves pieces of inputs, by what is drawn."""
 from campaigns import bytes_of
-from layout import ROOT, Bundle, Log, front_length, small_in_bundle, small_in_evidence
+from layout import ROOT, Bundle, Log, front_length, header_of, small_in_bundle, small_in_evidence, with_shared_root
 from scenarios import spell_lines
 
 VALUES = [0, 1, 2, 3, 4, 15, 16, 17, 254, 255]
@@ -139,6 +139,15 @@ def bend_text(draws, text):
     return spell_lines(lines)
 
 
+# Headers.
+
+
+def share_root(draws, *given):
+    """Two generals have one root, in each of these bundles or pieces of evidence."""
+    first, second = (draws.below(len(header_of(given[0]).roots)) for _ in range(2))
+    return [with_shared_root(data, first, second) for data in given]
+
+
 # Bundles.
 
 
@@ -241,6 +250,8 @@ def bend_bundle(draws, data):
     """A bundle with one change."""
     if draws.is_one_in(5):
         return bend_bytes(draws, data)
+    if draws.is_one_in(16):
+        return share_root(draws, data)[0]
     if draws.is_one_in(3):
         return bend_small(draws, data, small_in_bundle(data))
     bundle = Bundle(data)
@@ -274,6 +285,11 @@ def other_front(draws, runs, other):
     return bytes_of(*runs)
 
 
+def other_root(draws, runs, other):
+    """Two generals have one root in each run."""
+    return bytes_of(*share_root(draws, *runs))
+
+
 def other_count(draws, runs, other):
     """Another number of runs, or another mark, or little more than the mark."""
     data = bytes_of(*runs)
@@ -288,7 +304,7 @@ def bend_campaign(draws, runs, other):
     """A campaign of bundles with one change."""
     if draws.is_one_in(4):
         return bend_bytes(draws, bytes_of(*runs))
-    return draws.one_of([other_runs, other_runs, other_front, other_count])(draws, runs, other)
+    return draws.one_of([other_runs, other_runs, other_front, other_count, other_root])(draws, runs, other)
 
 
 # Evidence.
@@ -298,6 +314,8 @@ def bend_evidence(draws, data):
     """Evidence with one change."""
     if draws.is_one_in(3):
         return bend_bytes(draws, data)
+    if draws.is_one_in(16):
+        return share_root(draws, data)[0]
     if draws.is_one_in(6):
         mark = data[:3] + bytes([data[3] ^ 3])
         return mark + data[4:]

@@ -25,6 +25,13 @@ def front_length(data):
     return MARK + len(header_of(data).spell())
 
 
+def with_shared_root(data, first, second):
+    """The same with the root of the second general in the place of that of the first."""
+    header = header_of(data)
+    roots = [header.roots[second if general == first else general] for general in range(len(header.roots))]
+    return data[:MARK] + dataclasses.replace(header, roots=roots).spell() + data[front_length(data) :]
+
+
 class Bundle:
     """A bundle in its parts. Its header stays."""
 

@@ -1,7 +1,8 @@
 //! Jobs that say something of their output on standard error.
-ghost use Rattle.gen_jobs.specs.Ranges.{IsInRange};
+ghost use Rattle.gen_asked.specs.Ranges.{IsInRange};
 
-use gen_jobs::{Job, JobEnd, JobFault, Output, do_job, name_file, plan, write_output};
+use gen_asked::Job;
+use gen_jobs::{JobEnd, JobFault, Output, do_job, name_file, plan, write_output};
 use gen_net::Version;
 use std::alloc::{AllocError, Global};
 use std::io::{Read, Write};
