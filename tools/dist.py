@@ -9,7 +9,6 @@ front, and otherwise by the version and the commit. A commit with this tag whose
 refused.
 Dates are that of the commit, or SOURCE_DATE_EPOCH; owners, modes and the order are fixed.
 """
-import calendar
 import gzip
 import hashlib
 import io

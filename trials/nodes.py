@@ -16,7 +16,6 @@ import socket
 import struct
 import tempfile
 import threading
-import time
 
 from embed import ARCHIVE as JOBS, EMBED, IsNotBuilt, SANITIZERS, STACK, TOP, WARNINGS, do
 from layout import Bundle

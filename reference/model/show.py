@@ -3,7 +3,7 @@
 from __future__ import annotations
 
 from dataclasses import dataclass
-from typing import Callable, Dict, Generic, Iterator, List, Optional, Sequence, Tuple, TypeVar
+from typing import Callable, Dict, Generic, Iterable, Iterator, List, Optional, Sequence, Tuple, TypeVar
 
 from .bundle import CAMPAIGN_MARK, Bundle, Exhibit, read_bundle, read_campaign
 from .bundle import MARKS as BUNDLE_MARKS
@@ -102,7 +102,7 @@ def runs_of(bundles: Sequence[Bundle]) -> Iterator[Tuple[int, int, Bundle]]:
 # As text.
 
 
-def listed(numbers: Sequence[int]) -> str:
+def listed(numbers: Iterable[int]) -> str:
     """Numbers parted by commas, or a minus (FORMATS.md#shown-text)."""
     return ",".join(str(number) for number in numbers) or "-"
 

@@ -10,6 +10,7 @@ from model.chain import Chain, read_chain
 from model.faults import Cursor, Fault
 from model.log import Decide, Recv, Send, Sign, Start, read_log
 from model.network import Header, Network, read_header
+from model.show import listed
 
 from .parts import Vector, given_as, packed, reading, with_byte
 
@@ -181,22 +182,17 @@ def log_header() -> Header:
     return header_of(network_of(3, None, 1, 1, 3))
 
 
-def path_text(path: Sequence[int]) -> str:
-    """A path with commas."""
-    return ",".join(str(general) for general in path)
-
-
 def entry_text(entry: Any) -> str:
     """An entry in words."""
     if isinstance(entry, Start):
         return f"START general {entry.general} order {'none' if entry.own is None else entry.own}"
     if isinstance(entry, Sign):
-        return f"SIGN order {entry.order} path {path_text(entry.path)}"
+        return f"SIGN order {entry.order} path {listed(entry.path)}"
     if isinstance(entry, Send):
-        return f"SEND to {entry.to} order {entry.order} path {path_text(entry.path)}"
+        return f"SEND to {entry.to} order {entry.order} path {listed(entry.path)}"
     if isinstance(entry, Recv):
-        return f"RECV from {entry.sender} order {entry.chain.order} path {path_text(entry.chain.path)}"
-    return f"DECIDE set {path_text(entry.orders) or '-'} order {entry.order}"
+        return f"RECV from {entry.sender} order {entry.chain.order} path {listed(entry.chain.path)}"
+    return f"DECIDE set {listed(entry.orders)} order {entry.order}"
 
 
 def log_fields(data: bytes) -> Vector:
