@@ -12,14 +12,12 @@ import collections
 import ctypes
 import hashlib
 import os
-import shutil
 import struct
 import tempfile
 
-from embed import IsNotBuilt
 from layout import MARK, Bundle
 from nodes import BAD, DONE, NO_ORDER, SHORT, Library, with_little_stack
-from processes import ARCHIVE, seed_of
+from processes import seed_of, try_with_library
 from programs import End, differs, fault, run
 from reference import root_digits
 from scenarios import chain, everybody, scenario
@@ -453,16 +451,11 @@ def wrong_of(trial, program, library):
     return None if library.blocks.value == 0 else f"{library.blocks.value} blocks are left"
 
 
+def try_library(program, tally, library):
+    for name, trial in TRIALS.items():
+        tally.hold(name, with_little_stack(wrong_of, trial, program, library))
+    tally.count(28 + len(ANY_SEEDS) * len(ROOTS))
+
+
 def trials(program, tally):
-    if not os.path.exists(ARCHIVE) or not shutil.which("cc"):
-        tally.note("left out: cc or crates/sm_node/out/libsm_node.a is not there")
-        return
-    with tempfile.TemporaryDirectory() as folder:
-        try:
-            library = Library(folder)
-        except IsNotBuilt as told:
-            tally.fail(str(told))
-            return
-        for name, trial in TRIALS.items():
-            tally.hold(name, with_little_stack(wrong_of, trial, program, library))
-        tally.count(28 + len(ANY_SEEDS) * len(ROOTS))
+    try_with_library(tally, lambda folder: try_library(program, tally, Library(folder)))
