@@ -24,6 +24,7 @@ import time
 import completions
 import debian
 import proved
+from debian import read, write
 from man3 import FUNCTION, HEADERS, SHARED
 from version import TOP, UNRELEASED, is_unreleased, short, version
 
@@ -60,17 +61,6 @@ def run(*words, **how):
         said = ran.stderr.decode(errors="replace").strip().splitlines() or ["it says nothing"]
         raise Refused(f"{words[0]} failed: {said[0][:300]}")
     return ran.stdout.decode()
-
-
-def read(path):
-    with open(path, "rb") as file:
-        return file.read()
-
-
-def write(path, data):
-    os.makedirs(os.path.dirname(path), exist_ok=True)
-    with open(path, "wb") as file:
-        file.write(data)
 
 
 def commit():

@@ -1,8 +1,6 @@
 """Scenario texts that the trials use."""
-import itertools
-
 import reference  # noqa: F401
-from vector_cases.texts import ZEROS, scenario_lines, text_of
+from vector_cases.texts import ZEROS, everybody, scenario_lines, text_of
 
 
 def spell_lines(lines):
@@ -14,11 +12,6 @@ def scenario(edges, traitors, diameter, order, scripts=None, seed=ZEROS, **more)
     generals = 1 + max(max(edge) for edge in edges)
     numbers = {"traitors": traitors, "diameter": diameter, "order": order}
     return spell_lines(scenario_lines(generals, edges, scripts=scripts or {}, seed=seed, **numbers, **more))
-
-
-def everybody(generals):
-    """All edges between so many generals."""
-    return list(itertools.combinations(range(generals), 2))
 
 
 def chain(generals):

@@ -13,6 +13,7 @@ from model.network import Header, Network, read_header
 from model.show import listed
 
 from .parts import Vector, given_as, packed, reading, with_byte
+from .texts import everybody
 
 
 # Keys.
@@ -75,8 +76,7 @@ def key_vectors() -> Iterable[Vector]:
 def network_of(generals: int, edges: Optional[Sequence[Tuple[int, int]]] = None, traitors: int = 0,
                diameter: int = 1, orders: int = 2, choice: int = 0) -> Network:
     """A network; where no edges are given, all are neighbours."""
-    everybody = [(a, b) for a in range(generals) for b in range(a + 1, generals)]
-    return Network(generals, tuple(everybody if edges is None else edges), traitors, diameter, orders, choice)
+    return Network(generals, tuple(everybody(generals) if edges is None else edges), traitors, diameter, orders, choice)
 
 
 def header_of(network: Network, version: int = 1, slot: int = 0) -> Header:

@@ -2,6 +2,7 @@
 
 from __future__ import annotations
 
+from itertools import combinations
 from typing import Any, Dict, Iterable, List, Optional, Sequence, Tuple
 
 import sm
@@ -23,6 +24,11 @@ def scenario_lines(generals: int, edges: Sequence[Tuple[int, int]], **more: Any)
     for general, script in sorted(more.get("scripts", {}).items()):
         lines += [f"script {general}", *script]
     return lines + ["end"]
+
+
+def everybody(generals: int) -> List[Tuple[int, int]]:
+    """All edges between so many generals."""
+    return list(combinations(range(generals), 2))
 
 
 def text_of(lines: Sequence[str]) -> str:
