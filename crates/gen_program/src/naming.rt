@@ -14,7 +14,7 @@ const WHY: usize = 3;
 
 /// Appends a line that says why the plan of a header fails, if it does.
 fn push_plan(alloc: Global, lines: &mut String, header: &[u8]) -> Result<(), AllocError> {
-    let Ok(told) = plan(alloc, Version::V1, header) else {
+    let Ok(told) = plan(alloc, Version::One, header) else {
         return Err(AllocError);
     };
     if let (true, Ok(text)) = (told.negative, str::from_utf8(&told.text)) {
