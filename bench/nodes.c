@@ -6,23 +6,14 @@
    nanoseconds that his calls take by kind, those of one sm_node_root, the bytes of his frames in and out and of his log,
    and
    the most bytes that he held at once. In place of embed/heap.c stands a heap that counts for whom it is. */
+#include "sm_heap.h"
 #include "sm_node.h"
-#include <stdbool.h>
 #include <stdio.h>
 #include <stdlib.h>
 #include <string.h>
 #include <time.h>
 
 enum { GENERALS = 16, WATCHED = 1, MOST_BYTES = 4000000 };
-
-struct sm_block {
-    bool ok;
-    uint8_t *at;
-};
-
-struct sm_block rattle_alloc(size_t bytes, size_t align);
-struct sm_block rattle_realloc(uint8_t *at, size_t kept, size_t bytes, size_t align);
-void rattle_dealloc(uint8_t *at);
 
 /* Whose call runs, and what the watched one holds and held at most. A block has its length and its owner before it. */
 static uint32_t caller;

@@ -28,13 +28,13 @@ from campaigns import bytes_of
 from drawn import COMMANDS, SEVERAL, VERSIONS, WANT_RUNS, campaign_lines, draw_campaign, draw_plan, draw_words
 from drawn import good_options, run_id
 from drawn import spell_lines, spoil_text
-from drawing import bundles_in
 from draws import Draws
 from forging import Forger, compose_evidence, forge_bundle, hold_for_faulty, replayed
 from layout import MARK, Bundle, front_length
 from programs import End, commands_of, run, shown
 from reference import answer
 from model import words as named
+from model.bundle import read_campaign
 from model.faults import Fault
 from model.show import shown_runs
 import several
@@ -92,7 +92,7 @@ class Block:
         for _ in range(TRIES):
             if draws.below(2):
                 made = self.make(["campaign"], spell_lines(draw_campaign(draws, seed)))
-                runs = bundles_in(made.wrote) if made.status == 0 else []
+                runs = [it.spell() for it in read_campaign(made.wrote)] if made.status == 0 else []
             else:
                 generals, count = draws.one_of([2, 3, 3, 4]), draws.one_of([2, 2, 3])
                 slots = sorted(draws.below(3) for _ in range(count))

@@ -1,8 +1,8 @@
 """The library of nodes for C (embed/sm_node.h), driven through whole runs by calls: what each node sends, keeps and decides is
 what the program's run has, byte for byte.
 
-The frames of a run are put together of its logs, by docs/FORMATS.md: a SEND says which chain goes where, and a SIGN and a RECV
-say which bytes it has. So each node is driven alone, with the frames that the run has for it, a traitor's too. The runs are small
+The frames of a run are put together of its logs, which the reference reads: a SEND says which chain goes where, and a SIGN and
+a RECV say which bytes it has. So each node is driven alone, with the frames that the run has for it, a traitor's too. The runs are small
 ones, and those with the most that nodes send, hear and hand on: 16 rounds, 15 neighbours, frames of 15 chains, chains of 15
 signers that count and of 16 that can't, and 64 logs. Two nodes hand frames to each other. Roots of seeds are those of the
 reference. What a node refuses is told by its number, the first of several. The calls are made by ctypes, in a thread with
@@ -12,19 +12,19 @@ import collections
 import ctypes
 import hashlib
 import os
-import shutil
 import struct
 import tempfile
 
-from embed import IsNotBuilt
-from layout import MARK, SIGNATURE, Bundle, Log
+from layout import MARK, Bundle
 from nodes import BAD, DONE, NO_ORDER, SHORT, Library, with_little_stack
-from processes import ARCHIVE, seed_of
+from processes import seed_of, try_with_library
 from programs import End, differs, fault, run
 from reference import root_digits
 from scenarios import chain, everybody, scenario
+from model.chain import Chain
+from model.keys import height_of, signature_length
+from model.log import Recv, Send, Sign, read_log
 
-SIGN, SEND, RECV = 2, 3, 4
 # The numbers of faults in sm_node.h: there is no node, and those of frames and of bundles behind F0 and B0.
 NO_GENERAL, OTHER_ROOT, F0, B0 = 13, 14, 20, 40
 # The seeds of two nodes that are of no scenario.
@@ -46,7 +46,8 @@ LARGEST = {"edges": everybody(16), "traitors": 8, "diameter": 8, "order": 14, "o
 FIFTEEN_SIGNERS, LONGEST_FRAME = 248_657, 3_978_611
 # In the last of 16 rounds general 14 sends general 15 such a chain of each order, whose signatures are zeros, and nobody sends
 # anything else.
-ZERO_CHAINS = [bytes([order, 16]) + b"".join(bytes([it]) + bytes(SIGNATURE[2]) for it in range(16)) for order in range(15)]
+ZEROS = (bytes(signature_length(height_of(2))),) * 16
+ZERO_CHAINS = [Chain(order, tuple(range(16)), ZEROS).spell() for order in range(15)]
 RAW = {0: [], 14: [f"raw 16 15 {parcel.hex()}" for parcel in ZERO_CHAINS]}
 LATE = {"edges": everybody(16), "traitors": 1, "diameter": 15, "order": 1, "orders": 15, "slot": 3, "scripts": RAW}
 
@@ -175,26 +176,17 @@ def run_id_of(header):
     return hashlib.sha256(b"\x31" + header).digest()
 
 
-def chain_in(entry, version):
-    """The chain of a RECV: its order, its path and its bytes."""
-    data, width = entry[2:], 1 + SIGNATURE[version]
-    return data[0], bytes(data[2 + place * width] for place in range(data[1])), data
-
-
-def parcels_of(log, version):
-    """What a general sent: for each SEND its round, its receiver and the bytes of its chain. These are the bytes of the chain
-    that was received, with the general's own signature behind them."""
-    chains = {}
-    for entry in Log(log, version).entries:
-        if entry[0] == RECV:
-            order, path, data = chain_in(entry, version)
-            chains[order, path] = data
-        elif entry[0] == SIGN:
-            order, path = entry[1], entry[3 : 3 + entry[2]]
-            before = chains[order, path[:-1]][2:] if path[:-1] else b""
-            chains[order, path] = bytes([order, len(path)]) + before + path[-1:] + entry[3 + len(path) :]
-        elif entry[0] == SEND:
-            yield entry[3], entry[1], chains[entry[2], entry[4:]]
+def parcels_of(log, header):
+    """What a general sent: for each SEND its round, its receiver and the bytes of its chain. This is the chain that was received,
+    with the general's own signature behind it."""
+    chains = {(order, ()): Chain(order, (), ()) for order in range(header.network.orders)}
+    for entry in read_log(log, header).entries:
+        if isinstance(entry, Recv):
+            chains[entry.chain.order, entry.chain.path] = entry.chain
+        elif isinstance(entry, Sign):
+            chains[entry.order, entry.path] = chains[entry.order, entry.path[:-1]].longer(entry.path[-1], entry.signature)
+        elif isinstance(entry, Send):
+            yield len(entry.path), entry.to, chains[entry.order, entry.path].spell()
 
 
 class Run:
@@ -212,7 +204,7 @@ class Run:
         self.ways = [*edges, *((b, a) for a, b in edges)]
         self.parcels = collections.defaultdict(list)
         for general, log in self.exhibits:
-            for number, to, parcel in parcels_of(log, bundle.version):
+            for number, to, parcel in parcels_of(log, bundle.header):
                 self.parcels[number, general, to].append(parcel)
 
     def near(self, general):
@@ -459,16 +451,11 @@ def wrong_of(trial, program, library):
     return None if library.blocks.value == 0 else f"{library.blocks.value} blocks are left"
 
 
+def try_library(program, tally, library):
+    for name, trial in TRIALS.items():
+        tally.hold(name, with_little_stack(wrong_of, trial, program, library))
+    tally.count(28 + len(ANY_SEEDS) * len(ROOTS))
+
+
 def trials(program, tally):
-    if not os.path.exists(ARCHIVE) or not shutil.which("cc"):
-        tally.note("left out: cc or crates/sm_node/out/libsm_node.a is not there")
-        return
-    with tempfile.TemporaryDirectory() as folder:
-        try:
-            library = Library(folder)
-        except IsNotBuilt as told:
-            tally.fail(str(told))
-            return
-        for name, trial in TRIALS.items():
-            tally.hold(name, with_little_stack(wrong_of, trial, program, library))
-        tally.count(28 + len(ANY_SEEDS) * len(ROOTS))
+    try_with_library(tally, lambda folder: try_library(program, tally, Library(folder)))

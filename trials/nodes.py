@@ -14,14 +14,12 @@ import os
 import shutil
 import socket
 import struct
-import tempfile
 import threading
-import time
 
-from embed import ARCHIVE as JOBS, EMBED, IsNotBuilt, SANITIZERS, STACK, TOP, WARNINGS, do
+from embed import ARCHIVE as JOBS, EMBED, SANITIZERS, STACK, TOP, WARNINGS, do
 from layout import Bundle
 from processes import ARCHIVE, FOUR, OF_C, PARTS, SIXTEEN, Way, build_programs, make_header, run_id_of, sanitized, seed_of
-from processes import try_system, write_seeds
+from processes import try_system, try_with_library, write_seeds
 from programs import run, side_by_side
 from scenarios import chain, scenario
 
@@ -599,12 +597,4 @@ def try_built(program, tally, folder):
 
 
 def trials(program, tally):
-    if not os.path.exists(ARCHIVE) or not shutil.which("cc"):
-        tally.note("left out: cc or crates/sm_node/out/libsm_node.a is not there")
-        return
-    # A socket's address is short, so the folder has to be.
-    with tempfile.TemporaryDirectory(dir="/tmp") as folder:
-        try:
-            try_built(program, tally, folder)
-        except IsNotBuilt as told:
-            tally.fail(str(told))
+    try_with_library(tally, lambda folder: try_built(program, tally, folder))

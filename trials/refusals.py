@@ -5,6 +5,7 @@ generals, and where memory is refused from the Nth call on, N grows by an eighth
 calls than in the run before, since threads take turns, is no matter: whatever is refused, it has to end in one of these
 two ways.
 """
+import itertools
 import json
 import os
 import shutil
@@ -73,21 +74,26 @@ def numbers(is_sampled):
         number += number // 8 + 1 if is_sampled else 1
 
 
+def runs_of(call, is_sampled):
+    """Runs in which one call after the other is refused, with their ends, up to the first that meets no refusal."""
+    coming = numbers(is_sampled)
+    while some := list(itertools.islice(coming, AT_ONCE * count_cores())):
+        for number, (end, was_refused) in zip(some, side_by_side(call, some)):
+            yield number, end, was_refused
+            if not was_refused:
+                return
+
+
 def count_up(call, lawful, kind, is_sampled):
     """Refuses one call after the other. Returns how many runs met a refusal, and what is wrong with one, or None."""
-    whole = lawful[0]
-    coming, runs, refusals = numbers(is_sampled), 0, 0
-    while True:
-        some = [number for number, _ in zip(coming, range(AT_ONCE * count_cores()))]
-        if not some:
-            return runs, f"still refused after {runs} runs"
-        for number, (end, was_refused) in zip(some, side_by_side(call, some)):
-            wanted = lawful if was_refused else [whole]
-            if end not in wanted:
-                return runs, f"{number} refused: {shown(end)}"
-            if not was_refused:
-                return runs, None if refusals or kind == "thread" else "no refusal of memory was ever answered"
-            runs, refusals = runs + 1, refusals + (end != whole)
+    runs = refusals = 0
+    for number, end, was_refused in runs_of(call, is_sampled):
+        if end not in (lawful if was_refused else lawful[:1]):
+            return runs, f"{number} refused: {shown(end)}"
+        if not was_refused:
+            return runs, None if refusals or kind == "thread" else "no refusal of memory was ever answered"
+        runs, refusals = runs + 1, refusals + (end != lawful[0])
+    return runs, f"still refused after {runs} runs"
 
 
 def small_cases(program, folder):

@@ -23,7 +23,7 @@ from .plan import plan_text, planned_header
 from .prepare import bundle_of_parts, header_of_text, root_text
 from .run import play
 from .scenario import read_campaign_text, read_scenario
-from .show import equal_root_lines, shown_lines, shown_runs
+from .show import equal_root_lines, listed, shown_lines, shown_runs
 from .words import explain, with_words
 
 LONGEST_INPUT = 1_073_741_824
@@ -97,10 +97,10 @@ def _number(option: str, value: str) -> int:
 def _faulty(text: str) -> Tuple[int, ...]:
     """Who is held for faulty (FORMATS.md#the-programs-commands)."""
     numbers = [] if text == "none" else [_number_in(part, 0, 15) for part in text.split(",")]
-    listed = sorted(number for number in numbers if number is not None)
-    if len(listed) != len(numbers) or len(set(listed)) != len(listed):
+    members = sorted(number for number in numbers if number is not None)
+    if len(members) != len(numbers) or len(set(members)) != len(members):
         raise Refused("--faulty takes none, or numbers from 0 to 15 with commas between them, each once")
-    return tuple(listed)
+    return tuple(members)
 
 
 def _run_ids(text: str) -> List[bytes]:
@@ -289,8 +289,7 @@ def decide(given: bytes, job: Job) -> Tuple[int, bytes]:
     for general in sorted(sets):
         orders = sorted(sets[general])
         decided = scenario.order if general == 0 else network.decided(orders)
-        members = ",".join(str(order) for order in orders) or "-"
-        lines.append(f"general {general} set {members} decides {decided}\n")
+        lines.append(f"general {general} set {listed(orders)} decides {decided}\n")
     return 0, "".join(lines).encode("ascii")
 
 
