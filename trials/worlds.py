@@ -66,8 +66,8 @@ MOST_GENERALS = max(numbers[0] for numbers in NETWORKS.values())
 # Of a list with at most so many tuples each is asked. So many bundles are drawn for a changed auditor at most, and so many for a change
 # that is none.
 FEW, MOST_OF_ONE, SAME_ASKED = 150, 4_000, 150
-# Bundles, campaigns and scenarios of the trial. A job draws so many bundles at most. Scenarios of all scripts have so many jobs.
-BUNDLES, CAMPAIGNS, SCENARIOS, SHARE, SPLIT = 10_000, 100, 500, 250, 16
+# Bundles, campaigns of each world of version 2, and scenarios. A job draws so many bundles at most. Of all scripts so many jobs are made.
+BUNDLES, CAMPAIGNS, SCENARIOS, SHARE, SPLIT = 10_000, 50, 500, 250, 16
 # How many bundles are drawn for a world of so many generals, beside others.
 PARTS = {2: 1, 3: 4, 4: 6, 5: 5, 6: 4}
 # Of so many bundles one is asked of the program too, and one of the reference. So many tuples are put together of one list's logs.
@@ -184,17 +184,18 @@ class Trial:
             asked.add(hash(case))
 
     def across(self, job, done):
-        """Campaigns of two runs with the same keys, in one slot or in two."""
-        draws, runs = self.draws(job), [self.worlds[job.name], *self.twins[job.name]]
-        for _ in range(job.count):
-            both = [(world, next(cases(world, draws))) for world in (runs[0], draws.one_of(runs[1:]))]
-            given = b"SMC2\x02" + b"".join(world.bundle(case).spell() for world, case in both)
-            text = self.asked.answer("audit", given, done.counts["campaigns"])
+        """Campaigns of two runs with the same keys, in one slot or in two. They tell the auditors apart that are changed there."""
+        draws, world, alike = self.draws(job), self.worlds[job.name], dict(enumerate(wrong_audits.WRONG_ACROSS))
+        for number in range(job.count):
+            both = [(it, next(cases(it, draws))) for it in (world, draws.one_of(self.twins[job.name]))]
+            runs = [it.bundle(case) for it, case in both]
+            given = b"SMC2\x02" + b"".join(it.spell() for it in runs)
             lines = ["campaign 2", *(line for it in both for line in Wanted(*it).lines()[:-1]), *across_lines(both), "end campaign", ""]
-            told = [line for line in text.split("\n") if line[:1] != "N"]
+            told = [line for line in self.asked.answer("audit", given, number).split("\n") if line[:1] != "N"]
             done.hold(None if told == lines else f"{kept(given)}: {told}, wanted {lines}")
-            done.counts["campaigns"] += 1
-            done.counts["across"] += any(" across " in line for line in lines)
+            done.counts.update({"campaigns": 1, "across": any(" across " in line for line in lines)})
+            alike = {at: row for at, row in alike.items() if wrong_audits.told_by(row[1:], *runs) == lines}
+        done.hold(f"not told apart: {[row[0] for row in alike.values()]}" if alike else None)
 
     # Changed auditors.
 
@@ -278,7 +279,7 @@ def jobs_of(bundles, scenarios):
     yield from (Job("wrong", row[0], at, 0) for at, row in enumerate(wrong_audits.WRONG))
     yield from (Job("all", name, 0, 0) for name in NETWORKS)
     yield from (Job("same", row[0], at, 0) for at, row in enumerate(wrong_audits.SAME))
-    yield from (Job("across", name, 0, CAMPAIGNS // len(ACROSS)) for name in ACROSS)
+    yield from (Job("across", name, 0, CAMPAIGNS) for name in ACROSS)
     if scenarios:
         yield from (Job("decide", name, 0, scenarios // len(scripted.NETWORKS)) for name in scripted.NETWORKS)
     else:

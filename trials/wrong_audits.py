@@ -120,6 +120,15 @@ SAME = [
     ("K2 of any path", "three", "the commander stands first in each path", "convict", " and a.path == b.path == (COMMANDER,)", ""),
 ]
 
+LEAVES = "if leaf_of(header, self.first.text) != leaf_of(self.other, self.second.text):"
+# Changes of who is convicted across two runs of a campaign: what is wrong, the module, and the texts.
+WRONG_ACROSS = [
+    ("nobody is convicted across runs", "convict", "header.slot == headers[two].slot and claim.holds(header, general)", "False"),
+    ("across runs leaves are not compared", "evidence", LEAVES, "if False:"),
+    ("across runs heads do not convict", "evidence", LEAVES, LEAVES.replace("if ", "if isinstance(self.first.text, Head) or ")),
+    ("across runs statements do not convict", "evidence", LEAVES, LEAVES.replace("if ", "if isinstance(self.first.text, Statement) or ")),
+]
+
 
 class IsGone(Exception):
     """The reference lacks the text that a row changes."""
@@ -138,7 +147,7 @@ def source_of(name):
 
 @functools.lru_cache(maxsize=None)
 def auditor(name, old, new):
-    """The judging modules of the reference with a text of one of them changed: `judge`, and `verdict_text` of what it returns."""
+    """The judging modules of the reference with a text of one of them changed: `judge`, and the module that writes texts."""
     made = {}
     for it in MODULES:
         text = source_of(it)
@@ -151,13 +160,16 @@ def auditor(name, old, new):
             vars(module).update({key: value for key, value in vars(earlier).items() if key in vars(module) and key[:2] != "__"})
         vars(module).update({"read_log": read_log} if it == "audit" else {})
         made[it] = module
-    return made["audit"].judge, made["convict"].verdict_text
+    return made["audit"].judge, made["convict"]
 
 
-def told_by(changed, bundle):
-    """The lines of the text that a changed auditor writes without its findings, or what it broke off by."""
-    judge, verdict_text = auditor(*changed)
+def told_by(changed, *runs):
+    """The lines of the text that a changed auditor writes of a bundle, or of the bundles of a campaign, without its findings. Or what
+    it broke off by."""
+    judge, writer = auditor(*changed)
     try:
-        return [line for line in verdict_text(judge(bundle)).split("\n") if line[:1] != "N"]
+        judged = [judge(bundle) for bundle in runs]
+        text = writer.campaign_text(judged) if judged[1:] else writer.verdict_text(judged[0])
     except Exception as broken:
         return [repr(broken)]
+    return [line for line in text.split("\n") if line[:1] != "N"]
