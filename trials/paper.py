@@ -48,7 +48,7 @@ class Plan:
     """A graph of generals, and the m and d of Theorem 4, which runs SM(m + d - 1)."""
 
     def __init__(self, generals, edges, m, d, values, choice):
-        self.generals, self.edges, self.m, self.d, self.values = generals, edges, m, d, values
+        self.generals, self.edges, self.m, self.d, self.values = generals, edges, m, d, range(values)
         self.choice = (only_element, median)[choice]
         self.neighbours = [sorted(sum(edge) - i for edge in edges if i in edge) for i in range(generals)]
         # By step (2)(B)(ii) a message v:0:j1:..:jk is relayed if k < m + d - 1, so a path has at most m + d generals.
@@ -61,11 +61,12 @@ class Plan:
     @functools.lru_cache(maxsize=None)
     def paths(self, length, last, receiver):
         """All paths of a length from the commander to the general who signs last, without the receiver."""
+        if length == 1:
+            return [(COMMANDER,)] if last == COMMANDER != receiver else []
+        if COMMANDER in (last, receiver):
+            return []
         others = [i for i in range(self.generals) if i not in (COMMANDER, last, receiver)]
-        if length == 1 or last == COMMANDER:
-            return [(COMMANDER,)] if (length, last) == (1, COMMANDER) and receiver != COMMANDER else []
-        inner = itertools.permutations(others, length - 2) if receiver != COMMANDER else ()
-        return [(COMMANDER, *between, last) for between in inner]
+        return [(COMMANDER, *between, last) for between in itertools.permutations(others, length - 2)]
 
 
 class Account(NamedTuple):
@@ -83,7 +84,7 @@ class Account(NamedTuple):
 def counting(plan, frame, number, sender, receiver):
     """Which messages of a frame count, each value with its path. What is no message stands there as None."""
     counted = {}
-    for v, path in filter(None, frame if len(frame) <= plan.values else []):
+    for v, path in filter(None, frame if len(frame) <= len(plan.values) else []):
         if len(path) == number and path[-1] == sender and receiver not in path:
             counted.setdefault(v, path)
     return counted
@@ -118,15 +119,15 @@ class Run:
 
     def can_make(self, v, path):
         """Assumption A4: whether the traitors have the signature of each loyal general in a path."""
-        return all(i not in self.values or (v, path[: at + 1]) in self.stolen for at, i in enumerate(path))
+        return all(i not in self.loyal or (v, path[: at + 1]) in self.stolen for at, i in enumerate(path))
 
     def lies(self, may_forge):
         """What a traitor can send a loyal neighbour: for each traitor, neighbour and value the paths. What does not count is left
         out, since nobody keeps anything of it."""
         for j in self.loyal:
             for i in self.plan.neighbours[j]:
-                paths = [] if i in self.values else self.plan.paths(self.number, i, j)
-                for v in range(self.plan.values if paths else 0):
+                paths = [] if i in self.loyal else self.plan.paths(self.number, i, j)
+                for v in self.plan.values if paths else ():
                     can = paths if may_forge else [path for path in paths if self.can_make(v, path)]
                     if can:
                         yield (i, j, v), can
@@ -135,7 +136,7 @@ class Run:
         """The loyal receive frames: steps (2)(A)(i) and (2)(B)(i). Returns what each has to relay, with the paths to choose from."""
         new = {}
         for (i, j), frame in frames.items():
-            for v, path in counting(self.plan, frame, self.number, i, j).items() if j in self.values else ():
+            for v, path in counting(self.plan, frame, self.number, i, j).items() if j in self.loyal else ():
                 self.received[j].add((i, v, path))
                 if v not in self.values[j]:
                     new.setdefault((j, v), []).append(path)
@@ -146,8 +147,8 @@ class Run:
     def steal(self, frames):
         """The traitors read what the loyal sent them."""
         for (_, j), frame in frames.items():
-            for v, path in frame if j not in self.values else ():
-                self.stolen.update((v, path[: at + 1]) for at, i in enumerate(path) if i in self.values)
+            for v, path in frame if j not in self.loyal else ():
+                self.stolen.update((v, path[: at + 1]) for at, i in enumerate(path) if i in self.loyal)
 
     def accounts(self):
         """What the loyal keep, with step (3)."""
@@ -162,7 +163,7 @@ class Run:
 def play(plan, loyal, choose, forging=()):
     """The accounts of the loyal of one run. `choose` is asked for all that SM and the traitors leave open: a question, and the
     answers to choose from. In the rounds of `forging` the traitors have all signatures."""
-    run = Run(plan, loyal, choose(("own",), range(plan.values)) if COMMANDER in loyal else None)
+    run = Run(plan, loyal, choose(("own",), plan.values) if COMMANDER in loyal else None)
     for number in range(1, plan.longest + 1):
         frames = run.send()
         heard = dict(frames)

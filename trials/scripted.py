@@ -30,7 +30,7 @@ def made_paths(generals, last):
 
 def lines_of(plan, general, generals):
     """Each line that the script of a general can have beside the scripts of some generals, as its fields."""
-    rounds, values = range(1, plan.longest + 1), range(plan.values)
+    rounds, values = range(1, plan.longest + 1), plan.values
     for to in plan.neighbours[general]:
         makes = [path for path in made_paths(generals, general) if len(path) <= plan.longest]
         yield from (("make", len(path), to, v, path) for path in makes for v in values)

@@ -87,7 +87,7 @@ class Scene:
 
     def an_entry(self, general):
         """Any entry of a log but the first and the last. Mostly its path ends where it has to."""
-        v, other = self.draws.below(self.plan.values), self.draws.one_of(self.everybody)
+        v, other = self.draws.one_of(self.plan.values), self.draws.one_of(self.everybody)
         kind, well = self.draws.one_of(["SIGN", "SEND", "RECV", "RECV"]), self.draws.below(4)
         if well and self.plan.neighbours[general]:
             other = self.draws.one_of(self.plan.neighbours[general])
@@ -101,7 +101,7 @@ class Scene:
         if way == 0:
             return (kind, *front, v, self.a_path(len(path), path[-1]))
         if way == 1:
-            return (kind, *front, self.draws.below(self.plan.values), path)
+            return (kind, *front, self.draws.one_of(self.plan.values), path)
         return (kind, self.draws.one_of(self.everybody), v, path) if front else self.an_entry(general)
 
     def changed(self, log):
@@ -115,12 +115,12 @@ class Scene:
         elif way == 2 and entries:
             entries[at] = self.an_entry(general)
         elif way == 3:
-            start = ("START", general, draws.one_of([None, *range(self.plan.values)]))
+            start = ("START", general, draws.one_of([None, *self.plan.values]))
         elif way == 4:
-            values = [v for v in range(self.plan.values) if draws.below(2)]
+            values = [v for v in self.plan.values if draws.below(2)]
             decide = ("DECIDE", tuple(values), draws.one_of([decide[2], self.plan.choice(values)]))
         elif way == 5:
-            decide = (*decide[:2], draws.below(self.plan.values))
+            decide = (*decide[:2], draws.one_of(self.plan.values))
         elif way == 6:
             entries = [(*it[:-2], self.swapped(it[-2]), it[-1]) for it in entries]
         else:
@@ -175,7 +175,7 @@ class Scene:
         gone, come, with_more = (draws.one_of(sent) if sent else None), None, draws.below(2)
         if not gone or draws.below(3):
             gone = gone if draws.below(2) else None
-            come = (gone[0], self.a_path(len(gone[1]), sender)) if gone else (draws.below(self.plan.values), self.a_path(last=sender))
+            come = (gone[0], self.a_path(len(gone[1]), sender)) if gone else (draws.one_of(self.plan.values), self.a_path(last=sender))
         ends = [(sender, "SEND", receiver), (receiver, "RECV", sender)]
         for general, kind, end in draws.one_of([ends, ends, ends, ends[:1], ends[1:]]):
             start, *entries, decide = logs[general]
@@ -195,7 +195,7 @@ class Scene:
         _, sender, v, path = self.draws.one_of(received)
         size, new = len(path), (v, self.a_path(len(path), sender))
         if self.draws.is_one_in(3) or general in new[1]:
-            new = self.draws.below(self.plan.values), path
+            new = self.draws.one_of(self.plan.values), path
 
         def with_new(entry):
             is_of_it = entry[-2] == v and entry[-1][:size] == path and (entry[0] != "RECV" or entry[1] == sender)
@@ -245,7 +245,7 @@ class Scene:
         paths, (start, *entries, decide) = self.plan.paths(number, sender, general), logs[general]
         if not paths or sender == general:
             return self.forged()
-        values = decide[1] if decide[1] and number < self.plan.longest else range(self.plan.values)
+        values = decide[1] if decide[1] and number < self.plan.longest else self.plan.values
         entries.append(("RECV", sender, self.draws.one_of(values), self.draws.one_of(paths)))
         logs[general] = decided(self.plan, tidied(start, entries, decide))
         return self.case(kind, logs)
@@ -262,7 +262,7 @@ class Scene:
         sent = {(to, v, path) for to in run for sender, v, path in run[to].received if sender == traitor}
         received = {(sender, v, path) for sender in run for to, v, path in run[sender].sent if to == traitor}
         values = {v for _, v, _ in received}
-        own = self.draws.below(self.plan.values) if traitor == COMMANDER else None
+        own = self.draws.one_of(self.plan.values) if traitor == COMMANDER else None
         values, obeyed = ({own}, own) if traitor == COMMANDER else (values, self.plan.choice(values))
         signed = {(v, path) for _, v, path in sent}
         return Account(own, *map(frozenset, (signed, sent, received, values)), obeyed)

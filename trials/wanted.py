@@ -60,6 +60,7 @@ class Wanted:
             return 3
         return 4 if any(not follows(self.plan, general, it.entries) for it in sealed) else None
 
+    @functools.cached_property
     def lines(self):
         """The lines of the answer, without those of findings."""
         decided = {it: self.accounts[it].obeyed for it in self.rest} if self.is_yes else {}
@@ -77,8 +78,8 @@ class Wanted:
         """None where an answer is right, else why not."""
         lines = text.split("\n")
         findings = [line for line in lines if line[:1] == "N"]
-        if [line for line in lines if line[:1] != "N"] != self.lines():
-            return f"{lines}, wanted {self.lines()}"
+        if [line for line in lines if line[:1] != "N"] != self.lines:
+            return f"{lines}, wanted {self.lines}"
         found = {re.sub(r"(N3 general \d+).*|(N7 general \d+).*", r"\1\2", line) for line in findings}
         matched = {line for line in found if line.startswith(("N8 ", "N9 "))}
         if found - matched != self.found:

@@ -16,9 +16,11 @@ import itertools
 import multiprocessing
 import os
 import re
+import shutil
 import sys
 import tempfile
 import time
+from concurrent.futures import ProcessPoolExecutor, as_completed
 from typing import NamedTuple
 
 import reference
@@ -190,7 +192,7 @@ class Trial:
             both = [(it, next(cases(it, draws))) for it in (world, draws.one_of(self.twins[job.name]))]
             runs = [it.bundle(case) for it, case in both]
             given = b"SMC2\x02" + b"".join(it.spell() for it in runs)
-            lines = ["campaign 2", *(line for it in both for line in Wanted(*it).lines()[:-1]), *across_lines(both), "end campaign", ""]
+            lines = ["campaign 2", *(line for it in both for line in Wanted(*it).lines[:-1]), *across_lines(both), "end campaign", ""]
             told = [line for line in self.asked.answer("audit", given, number).split("\n") if line[:1] != "N"]
             done.hold(None if told == lines else f"{kept(given)}: {told}, wanted {lines}")
             done.counts.update({"campaigns": 1, "across": any(" across " in line for line in lines)})
@@ -205,7 +207,7 @@ class Trial:
         world = self.worlds[name]
         for case in itertools.islice(cases(world, self.draws(job), listed, kinds), MOST_OF_ONE):
             wanted, bundle = self.ask(world, case, done)
-            if wrong_audits.told_by(changed, bundle) != wanted.lines():
+            if wrong_audits.told_by(changed, bundle) != wanted.lines:
                 done.told = done.counts["asked"]
                 break
         done.hold(None if done.told else "it is not told apart")
@@ -216,7 +218,7 @@ class Trial:
         world = self.worlds[name]
         for case in itertools.islice(cases(world, self.draws(job)), SAME_ASKED):
             told = wrong_audits.told_by(changed, world.bundle(case))
-            if told != Wanted(world, case).lines():
+            if told != Wanted(world, case).lines:
                 done.hold(f"it is told apart, and should not be, since {reason}: {told}")
                 return
         done.hold(None)
@@ -351,7 +353,7 @@ def told(counts):
 def build_library(folder):
     """The shared library of the archive, or None where there is none."""
     path = os.path.join(folder, "libsm_embed.so")
-    if not os.path.exists(ARCHIVE):
+    if not os.path.exists(ARCHIVE) or not shutil.which("cc"):
         return None
     heap = os.path.join(folder, "heap.o")
     do(["cc", "-std=c11", "-O2", *WARNINGS, "-fPIC", "-c", os.path.join(EMBED, "heap.c"), "-o", heap])
@@ -364,26 +366,29 @@ def try_all(trial, jobs, workers, tally, seconds=None):
     global THE_TRIAL
     THE_TRIAL, counts, since = trial, Counts(), time.monotonic()
     tally.hold("the differences between paper and project", differences_wrong())
-    with multiprocessing.get_context("fork").Pool(workers) as pool:
-        for done in pool.imap_unordered(do_job, jobs):
+    with ProcessPoolExecutor(workers, multiprocessing.get_context("fork")) as pool:
+        for future in as_completed([pool.submit(do_job, job) for job in jobs]):
+            done = future.result()
             counts.take(done)
             tally.count(done.runs)
             tally.passed += done.counts["tried"] - len(done.wrong)
             for wrong in done.wrong:
                 tally.fail(wrong)
             if seconds and time.monotonic() - since > seconds:
+                pool.shutdown(cancel_futures=True)
                 break
-    return counts
+    for line in counts.lines():
+        tally.note(line)
 
 
 def trials(program, tally):
     """Some bundles of this day's seed."""
+    if not {"audit", "decide"} <= set(tally.commands):
+        return
     with tempfile.TemporaryDirectory() as folder:
         library = build_library(folder)
         tally.note(f"seed {day()}, by {'the library for C' if library else 'the program'}")
-        trial = Trial(program, library, day(), FEW)
-        for line in try_all(trial, list(jobs_of(BUNDLES, SCENARIOS)), count_cores(), tally).lines():
-            tally.note(line)
+        try_all(Trial(program, library, day(), FEW), jobs_of(BUNDLES, SCENARIOS), count_cores(), tally)
 
 
 def main():
@@ -399,11 +404,9 @@ def main():
     program, tally = None if given.program == "reference" else os.path.abspath(given.program), Tally("worlds", None)
     with tempfile.TemporaryDirectory() as folder:
         library = build_library(folder) if program else None
-        trial = Trial(program, library, given.seed, given.few)
         tally.note(f"seed {given.seed}, by {'the library for C' if library else given.program}")
-        jobs = jobs_of(given.bundles, 0 if given.all else SCENARIOS)
-        for line in try_all(trial, list(jobs), given.workers, tally, given.seconds).lines():
-            tally.note(line)
+        trial, jobs = Trial(program, library, given.seed, given.few), jobs_of(given.bundles, 0 if given.all else SCENARIOS)
+        try_all(trial, jobs, given.workers, tally, given.seconds)
     tally.close()
     print(f"{tally.passed} passed, {tally.failed} failed", flush=True)
     return 1 if tally.failed else 0
