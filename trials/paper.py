@@ -9,26 +9,27 @@ import functools
 import itertools
 from typing import NamedTuple
 
-# The section of docs/PROTOCOL.md whose table has a difference, and the first cell and the cell "Here" of its row. The rows and this
-# list have to be the same (`differences_wrong` of worlds.py).
+# Where docs/PROTOCOL.md departs from the paper, and what the paper leaves open: the section of the table, the first cell of the row
+# and the cell "Here". The rows of these tables and this list have to be the same (`differences_wrong` of worlds.py).
+STEPS, SIGNATURES, OPEN = "the-protocol", "what-a-run-is", "what-the-paper-leaves-open"
 DIFFERENCES = [
-    ("the-protocol", "2(A)", "A lieutenant adds each value that comes from the commander in round 1."),
-    ("the-protocol", "2(A)", "With one round nothing is relayed."),
-    ("the-protocol", "2(B)", "A chain counts only if the node that sent it signed last."),
-    ("the-protocol", "2(B), 3", "A chain counts only in the round whose number is the number of its signers."),
-    ("the-protocol", "2(B)", "Of a frame of more than q parcels none counts."),
-    ("the-protocol", "2(B)", "Of several chains of one value in a frame the first one that may count does."),
-    ("the-protocol", "2(B)", "A chain that names its receiver is ignored."),
-    ("what-the-paper-leaves-open", "Which chain of a value is relayed", "any that arrives in the round in which the value is added"),
-    ("what-the-paper-leaves-open", "A longer chain that nobody is left to be sent", "It is signed all the same, and so is the own value."),
-    ("what-the-paper-leaves-open", "What the commander decides", "the own value, which is the commander's set"),
-    ("what-the-paper-leaves-open", "The choice of several values", "RETREAT, or the lesser one in the middle"),
-    ("what-the-paper-leaves-open", "What the faulty share", "What one faulty node was sent, each may use from the next round on, without an edge."),
-    ("what-the-paper-leaves-open", "Edges between signers", "Only the sender and the receiver of a message need one."),
-    ("what-the-paper-leaves-open", "Which graph has diameter d", "one whose nodes are joined by walks of at most d edges inside it"),
-    ("what-a-run-is", "It is sent on in the round in which it came.", "It may be used from the next round on."),
-    ("what-a-run-is", "It was read on its way between two nodes of the rest.", "Only what a faulty node was sent may be used."),
-    ("what-a-run-is", "It was sent to nobody, and was read in a log.", "Only what a faulty node was sent may be used."),
+    (STEPS, "2(A)", "A lieutenant adds each value that comes from the commander in round 1."),
+    (STEPS, "2(A)", "With one round nothing is relayed."),
+    (STEPS, "2(B)", "A chain counts only if the node that sent it signed last."),
+    (STEPS, "2(B), 3", "A chain counts only in the round whose number is the number of its signers."),
+    (STEPS, "2(B)", "Of a frame of more than q parcels none counts."),
+    (STEPS, "2(B)", "Of several chains of one value in a frame the first one that may count does."),
+    (STEPS, "2(B)", "A chain that names its receiver is ignored."),
+    (SIGNATURES, "It is sent on in the round in which it came.", "It may be used from the next round on."),
+    (SIGNATURES, "It was read on its way between two nodes of the rest.", "Only what a faulty node was sent may be used."),
+    (SIGNATURES, "It was sent to nobody, and was read in a log.", "Only what a faulty node was sent may be used."),
+    (OPEN, "Which chain of a value is relayed", "any that arrives in the round in which the value is added"),
+    (OPEN, "A longer chain that nobody is left to be sent", "It is signed all the same, and so is the own value."),
+    (OPEN, "What the commander decides", "the own value, which is the commander's set"),
+    (OPEN, "The choice of several values", "RETREAT, or the lesser one in the middle"),
+    (OPEN, "What the faulty share", "What one of them was sent, each may use from the next round on, without an edge."),
+    (OPEN, "Edges between signers", "Only the sender and the receiver of a message need one."),
+    (OPEN, "Which graph has diameter d", "one whose nodes are joined by walks of at most d edges inside it"),
 ]
 
 COMMANDER, RETREAT = 0, 0
@@ -133,7 +134,7 @@ class Run:
                         yield (i, j, v), can
 
     def hear(self, frames):
-        """The loyal receive frames: steps (2)(A)(i) and (2)(B)(i). Returns what each has to relay, with the paths to choose from."""
+        """The loyal receive frames: steps (2)(A)(i) and (2)(B)(i). Returns what each has to relay, with the paths to choose of."""
         new = {}
         for (i, j), frame in frames.items():
             for v, path in counting(self.plan, frame, self.number, i, j).items() if j in self.loyal else ():

@@ -1,6 +1,8 @@
 """Tuples of logs that the rest of a small world show: those of runs, and near ones that are drawn."""
+import itertools
+
 from exhibits import BENT, BY_ANOTHER, SEALED, Case, Exhibit, decided, entries_of, tidied
-from paper import COMMANDER, Account, joins, play
+from paper import COMMANDER, Account, all_runs, joins, play
 
 # Bytes that are no log.
 JUNK = [b"", b"\x00", b"no log" * 20]
@@ -149,8 +151,8 @@ class Scene:
     def crossed(self):
         """Each shows a log of one of two runs with the same traitors."""
         other = self.drawn_run(self.listed)
-        logs = {general: self.logs[general] if self.draws.below(2) else entries_of(general, other[general]) for general in self.rest}
-        return self.case("crossed", logs)
+        logs = {it: entries_of(it, other[it]) for it in self.rest if self.draws.below(2)}
+        return self.case("crossed", {**self.logs, **logs})
 
     def free(self):
         """Each shows a log that it can keep in some run."""
@@ -175,7 +177,8 @@ class Scene:
         gone, come, with_more = (draws.one_of(sent) if sent else None), None, draws.below(2)
         if not gone or draws.below(3):
             gone = gone if draws.below(2) else None
-            come = (gone[0], self.a_path(len(gone[1]), sender)) if gone else (draws.one_of(self.plan.values), self.a_path(last=sender))
+            v, size = (gone[0], len(gone[1])) if gone else (draws.one_of(self.plan.values), None)
+            come = v, self.a_path(size, sender)
         ends = [(sender, "SEND", receiver), (receiver, "RECV", sender)]
         for general, kind, end in draws.one_of([ends, ends, ends, ends[:1], ends[1:]]):
             start, *entries, decide = logs[general]
@@ -337,9 +340,32 @@ def is_made_of(entry, kind, end, v, path, with_more):
     return with_more and is_relay and (kind == "RECV" or entry == ("SIGN", v, path))
 
 
+def every_log(plan, general):
+    """Each log of a general that reads, in a world of one round."""
+    path, everybody = (COMMANDER,), range(plan.generals)
+    entries = [("SIGN", v, path) for v in plan.values]
+    entries += [(kind, other, v, path) for kind in ("SEND", "RECV") for other in everybody for v in plan.values]
+    sets = [values for size in range(len(plan.values) + 1) for values in itertools.combinations(plan.values, size)]
+    chosen = itertools.product([None, *plan.values], itertools.product((False, True), repeat=len(entries)), sets, plan.values)
+    for own, which, values, obeyed in chosen:
+        yield tidied(("START", general, own), itertools.compress(entries, which), ("DECIDE", values, obeyed))
+
+
+def every_case(world):
+    """Each log of one of two generals, where the other is listed, and beside each log that the other keeps where nobody is."""
+    for general, other in ((0, 1), (1, 0)):
+        runs = list(all_runs(world.plan, (0, 1)))
+        for log in every_log(world.plan, general):
+            yield Case("every log", (other,), (), (Exhibit(general, log),))
+            for run in runs:
+                both = sorted([Exhibit(general, log), Exhibit(other, entries_of(other, run[other]))])
+                yield Case("every log", (), ((0, 1),), tuple(both))
+
+
 # How often each kind is drawn.
 KINDS = [Scene.reached] * 3 + [Scene.fewer, Scene.crossed, Scene.free, Scene.edited, Scene.edited, Scene.edited_twice] * 2
-KINDS += [Scene.message, Scene.one_end, Scene.renamed, Scene.relayed, Scene.lie, Scene.other_list, Scene.forged] * 3 + [Scene.walked, Scene.shown_badly] * 2
+KINDS += [Scene.message, Scene.one_end, Scene.renamed, Scene.relayed, Scene.lie, Scene.other_list, Scene.forged] * 3
+KINDS += [Scene.walked, Scene.shown_badly] * 2
 # So many bundles share a run.
 SHARED = 12
 

@@ -3,11 +3,12 @@
 
     trials/worlds.py PROGRAM [--bundles N] [--seed N] [--workers N] [--seconds N] [--few N] [--all]
 
-The answer to a bundle is a yes if and only if some run of the paper's algorithm leaves the logs that the bundle shows, and walks join
-the rest. In this run all that are not listed are loyal. What the listed can do is enumerated for each list with at most --few tuples,
-and drawn for all lists. The library for C is asked, and of every twentieth bundle the program too. Without the library the program is
-asked alone. With --all each script of one and two lines is decided, and not some that are drawn. A bundle follows from the seed, its
-job and its number alone. `reference` in place of PROGRAM has the reference answer.
+The answer to a bundle has to be a yes if and only if some run of the paper's algorithm leaves the logs that the bundle shows, and
+walks join the rest. In this run all that are not listed are loyal. What the listed can do is enumerated for each list with at most
+--few tuples, and drawn for all lists. The library for C is asked, and of every twentieth bundle the program too. Without the
+library the program is asked alone. With --all each script of one and two lines is decided and each log of two generals in one round
+is asked, and not some that are drawn. A bundle follows from the seed, its job and its number alone. `reference` in place of PROGRAM
+has the reference answer.
 """
 import argparse
 import collections
@@ -33,7 +34,7 @@ from exhibits import Keys, World, entries_of
 from paper import DIFFERENCES, Plan, all_runs, is_kept, keeps_conditions
 from programs import count_cores, run
 from tally import Tally
-from tuples import Scene, cases
+from tuples import Scene, cases, every_case
 from wanted import Wanted, across_lines
 
 # Generals, edges, m, d, how many values, the choice, and the slot of a network of version 2.
@@ -62,14 +63,16 @@ NETWORKS = {
     "five.m2": (5, list(itertools.combinations(range(5), 2)), 2, 1, 2, 0, None),
     "six.m2": (6, [(0, 1), (0, 3), (0, 5), (1, 2), (1, 4), (2, 3), (3, 4), (4, 5)], 2, 2, 2, 0, None),
 }
-# Worlds of version 2, with the networks of a second run with the same keys: in the same slot with the other choice, in the next slot.
+# Worlds of version 2, each with the numbers of two more runs with the same keys: the other choice, and the next slot.
 ACROSS = {name: [(*it[:5], 1 - it[5], it[6]), (*it[:6], it[6] + 1)] for name, it in NETWORKS.items() if it[6] is not None}
 MOST_GENERALS = max(numbers[0] for numbers in NETWORKS.values())
-# Of a list with at most so many tuples each is asked. So many bundles are drawn for a changed auditor at most, and so many for a change
-# that is none.
+# Of a list with at most so many tuples each is asked. So many bundles are drawn at most for a changed auditor, and so many for a
+# change that is none.
 FEW, MOST_OF_ONE, SAME_ASKED = 150, 4_000, 150
-# Bundles, campaigns of each world of version 2, and scenarios. A job draws so many bundles at most. Of all scripts so many jobs are made.
+# Bundles, campaigns of each world of version 2, and scenarios. A job draws so many bundles at most. All scripts are so many jobs.
 BUNDLES, CAMPAIGNS, SCENARIOS, SHARE, SPLIT = 10_000, 50, 500, 250, 16
+# Of two generals in one round there are so many tuples with a log of one that reads, of which the trial has so many.
+EVERY, LOGS = 147_456, 500
 # How many bundles are drawn for a world of so many generals, beside others.
 PARTS = {2: 1, 3: 4, 4: 6, 5: 5, 6: 4}
 # Of so many bundles one is asked of the program too, and one of the reference. So many tuples are put together of one list's logs.
@@ -185,6 +188,13 @@ class Trial:
                 self.ask(world, case, done)
             asked.add(hash(case))
 
+    def every(self, job, done):
+        """Of all logs of two generals in one round so many, as they are drawn, or every SPLITth."""
+        world, step = self.worlds[job.name], EVERY // job.count if job.count else SPLIT
+        first = self.draws(job).below(step) if job.count else job.number
+        for case in itertools.islice(every_case(world), first, None, step):
+            self.ask(world, case, done)
+
     def across(self, job, done):
         """Campaigns of two runs with the same keys, in one slot or in two. They tell the auditors apart that are changed there."""
         draws, world, alike = self.draws(job), self.worlds[job.name], dict(enumerate(wrong_audits.WRONG_ACROSS))
@@ -192,7 +202,8 @@ class Trial:
             both = [(it, next(cases(it, draws))) for it in (world, draws.one_of(self.twins[job.name]))]
             runs = [it.bundle(case) for it, case in both]
             given = b"SMC2\x02" + b"".join(it.spell() for it in runs)
-            lines = ["campaign 2", *(line for it in both for line in Wanted(*it).lines[:-1]), *across_lines(both), "end campaign", ""]
+            lines = [line for it in both for line in Wanted(*it).lines[:-1]]
+            lines = ["campaign 2", *lines, *across_lines(both), "end campaign", ""]
             told = [line for line in self.asked.answer("audit", given, number).split("\n") if line[:1] != "N"]
             done.hold(None if told == lines else f"{kept(given)}: {told}, wanted {lines}")
             done.counts.update({"campaigns": 1, "across": any(" across " in line for line in lines)})
@@ -273,7 +284,7 @@ def kept(given):
 
 
 JOBS = {"all": Trial.whole, "drawn": Trial.drawn, "across": Trial.across, "wrong": Trial.wrong_audit}
-JOBS |= {"same": Trial.same_audit, "decide": Trial.decided}
+JOBS |= {"every": Trial.every, "same": Trial.same_audit, "decide": Trial.decided}
 
 
 def jobs_of(bundles, scenarios):
@@ -283,8 +294,10 @@ def jobs_of(bundles, scenarios):
     yield from (Job("same", row[0], at, 0) for at, row in enumerate(wrong_audits.SAME))
     yield from (Job("across", name, 0, CAMPAIGNS) for name in ACROSS)
     if scenarios:
+        yield Job("every", "two", 0, LOGS)
         yield from (Job("decide", name, 0, scenarios // len(scripted.NETWORKS)) for name in scripted.NETWORKS)
     else:
+        yield from (Job("every", "two", at, 0) for at in range(SPLIT))
         yield from (Job("decide", name, at, 0) for name in scripted.NETWORKS for at in range(SPLIT))
     parts = {name: PARTS[numbers[0]] for name, numbers in NETWORKS.items()}
     each = {name: -(-bundles * part // sum(parts.values())) for name, part in parts.items()}
@@ -334,10 +347,8 @@ class Counts:
         yield f"all bundles: {told(self.all)}"
         names = [f"{name} {number}" for name, number in sorted(self.all.items()) if name.endswith("convicted")]
         yield f"{', '.join(names)}, in {self.all['across']} of {self.all['campaigns']} campaigns across runs"
-        latest = sorted(self.told.items(), key=lambda it: -it[1])[:SHOWN]
-        yield f"{len(self.told)} of {len(wrong_audits.WRONG)} changed auditors are told apart, the last of them by so many bundles: " + (
-            ", ".join(f"{name} {number}" for name, number in latest)
-        )
+        latest = ", ".join(f"{name} {number}" for name, number in sorted(self.told.items(), key=lambda it: -it[1])[:SHOWN])
+        yield f"{len(self.told)} of {len(wrong_audits.WRONG)} changed auditors are told apart; by most bundles: {latest}"
         yield f"{self.all['decided']} decisions of scenarios with scripts"
         numbers = [self.all[name] for name in ("tuples", "within", "broken")]
         yield "of {} tuples of whole lists {} are within the premises of Theorem 4; {} others break its conditions".format(*numbers)
@@ -346,8 +357,9 @@ class Counts:
 def told(counts):
     """Numbers of bundles in a line."""
     alone = ", ".join(f"N{it} {counts[f'N{it} alone']}" for it in range(1, 12) if counts[f"N{it} alone"])
-    line = f"{counts['asked']} bundles, {counts['agreed']} agreed, {counts['explained']} explained, {counts['no']} no (alone: {alone})"
-    return line + (f"; {counts['whole lists']} of {counts['lists']} lists whole, {counts['tuples']} tuples" if counts["lists"] else "")
+    numbers = ", ".join(f"{counts[it]} {it}" for it in ("agreed", "explained", "no"))
+    whole = f"; {counts['whole lists']} of {counts['lists']} lists whole, {counts['tuples']} tuples" if counts["lists"] else ""
+    return f"{counts['asked']} bundles, {numbers} (alone: {alone}){whole}"
 
 
 def build_library(folder):
