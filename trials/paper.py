@@ -134,7 +134,7 @@ class Run:
                         yield (i, j, v), can
 
     def hear(self, frames):
-        """The loyal receive frames: steps (2)(A)(i) and (2)(B)(i). Returns what each has to relay, with the paths to choose of."""
+        """The loyal receive frames: steps (2)(A)(i) and (2)(B)(i). Returns what each has to relay, and the paths to choose from."""
         new = {}
         for (i, j), frame in frames.items():
             for v, path in counting(self.plan, frame, self.number, i, j).items() if j in self.loyal else ():

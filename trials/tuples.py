@@ -310,7 +310,7 @@ class Scene:
             [],
             [good, good],
             [good, Exhibit(general, self.changed(log))],
-            [good._replace(junk=self.draws.one_of(JUNK))],
+            [good._replace(junk=self.no_log(good))],
             [good._replace(of_run=False)],
             [good._replace(entries=(("START", self.draws.one_of(self.everybody), log[0][2]), *log[1:]))],
             [good._replace(seal=BENT)],
@@ -320,6 +320,12 @@ class Scene:
         ][way]
         kept = [it for it in case.exhibits if it.general != general]
         return case._replace(kind="exhibits", exhibits=tuple(sorted(kept + shown, key=lambda it: it.general)))
+
+    def no_log(self, good):
+        """Bytes that do not read: anything, a log that ends early or late, or its entries the other way round."""
+        (start, *entries, decide), data = good.entries, self.world.written(good)[0]
+        turned = good._replace(entries=(start, *reversed(entries), decide))
+        return self.draws.one_of([*JUNK, data[:-1], data + b"\x00", self.world.write(turned)[0] if entries[1:] else b""])
 
     def places_of(self, entry):
         """The places of the signatures of an entry."""

@@ -273,7 +273,8 @@ def count(counts, wanted, text):
     verdict, names = lines[1].split()[1], {line.split()[0] for line in lines if line[:1] == "N"}
     counts.update(["asked", verdict, f"{wanted.case.kind}: {'no' if names else 'yes'}", *names])
     counts.update(f"{name} alone" for name in names if len(names) == 1)
-    counts.update(f"{line.split()[-1]} convicted" for line in lines if line.startswith("convicted"))
+    convicted = [f"{line.split()[-1]} convicted" for line in lines if line.startswith("convicted")]
+    counts.update([*convicted, *["not convicted"] * (wanted.plan.generals - len(convicted))])
 
 
 def kept(given):
