@@ -68,7 +68,7 @@ ACROSS = {name: [(*it[:5], 1 - it[5], it[6]), (*it[:6], it[6] + 1)] for name, it
 MOST_GENERALS = max(numbers[0] for numbers in NETWORKS.values())
 # Of a list with at most so many tuples each is asked. So many bundles are drawn at most for a changed auditor, and so many for a
 # change that is none.
-FEW, MOST_OF_ONE, SAME_ASKED = 150, 4_000, 150
+FEW, MOST_OF_ONE, SAME_ASKED = 150, 10_000, 150
 # Bundles, campaigns of each world of version 2, and scenarios. A job draws so many bundles at most. All scripts are so many jobs.
 BUNDLES, CAMPAIGNS, SCENARIOS, SHARE, SPLIT = 10_000, 50, 500, 250, 16
 # Of two generals in one round there are so many tuples with a log of one that reads, of which the trial has so many.
