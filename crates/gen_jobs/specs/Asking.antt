@@ -33,7 +33,6 @@ use Rattle.gen_asked.specs.declared.faulty.Faulty.TheVariants.{Listed}
 use Rattle.gen_jobs.specs.declared.ends.JobFault.{JobFault}
 use Rattle.gen_jobs.specs.declared.ends.JobFault.TheVariants as faults
 use Rattle.gen_asked.specs.declared.forms.Form.{Form}
-use Rattle.gen_asked.specs.declared.forms.Form.TheVariants.{Text, Json}
 
 -- memory was refused, or the runs with these ids are not the ones that are asked for
 abbrev pub OthersAsked : AskedRuns → List (List ℕ) → JobFault → Type 0
@@ -137,11 +136,8 @@ AuditsAs origin strict shown text negative =
     Counts origin strict (have_few shown.bundles) (shared_roots shown.bundles)
     (AuditsShown origin shown.alone shown.bundles) text negative
 
--- the text is that of the judgement on the bundle or campaign in the input, of the runs that are asked for
-abbrev pub IsAuditedAs : AskedRuns → Bool → List ℕ → List ℕ → Bool → Type 0
-IsAuditedAs asked strict input text negative = Shows asked (AuditsAs None strict) input text negative
-
--- the same in a form, of an input without a name
+-- The text is that of the judgement on the bundle or campaign in the input, which has no name, of the runs
+-- that are asked for: in a form, and with whether it counts as a no.
 abbrev pub IsAuditedIn : Form → AskedRuns → Bool → List ℕ → List ℕ → Bool → Type 0
 IsAuditedIn form asked strict input text negative =
     Shows asked (AuditsAs (origin_in form None (record { runs = asked; faulty = Listed }) input) strict) input
@@ -187,9 +183,6 @@ pub record IsCheckedIn (form : Form) (asked : AskedRuns) (input text : List ℕ)
   pub spelled : Spells IsWhole whole_spelling input read
   pub run : AreAsked asked (run_id_of read.header ∷ [])
   pub tells : Tells form read text negative
-
-abbrev pub IsCheckedOf : AskedRuns → List ℕ → List ℕ → Bool → Type 0
-IsCheckedOf = IsCheckedIn Text
 
 -- The input spells evidence, and not of the run that is asked for.
 pub record IsOfOther (asked : AskedRuns) (input : List ℕ) : Type 0 where

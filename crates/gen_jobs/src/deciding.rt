@@ -1,7 +1,7 @@
 //! The job `decide`: writes what each general decides.
 ghost use Rattle.std.specs.Prelude.{◌≡◌, IfOk, IfErr, IfSome};
 ghost use Rattle.gen_jobs.specs.Answering.{Answers};
-ghost use Rattle.gen_jobs.specs.Decide.{IsDecided, IsDecidedIn, IsDecideFault, told_text};
+ghost use Rattle.gen_jobs.specs.Decide.{IsDecidedIn, IsDecideFault, told_text};
 ghost use Rattle.gen_jobs.specs.Ends.{IsTaken, KeepsUntilWhole};
 
 use crate::ends::{JobEnd, JobFault, Output};
@@ -53,7 +53,7 @@ fn told_in(alloc: Global, form: Form, told: ScenarioText) -> Result<Vec<u8>, All
 /// # Errors
 ///
 /// `Scenario` with the first fault of an input that spells no scenario; `Memory` if memory is refused.
-pub fn decide_in(alloc: Global, form: Form, input: &[u8]) -> Result<Output, JobFault>
+pub fn decide(alloc: Global, form: Form, input: &[u8]) -> Result<Output, JobFault>
     ensures answer { IfOk result (λ o. IsDecidedIn form input.now o.text.items o.negative) }
     ensures fault { IfErr result (IsDecideFault input.now) }
 {
@@ -63,19 +63,6 @@ pub fn decide_in(alloc: Global, form: Form, input: &[u8]) -> Result<Output, JobF
         text,
         negative: false,
     })
-}
-
-/// Returns the text of what each general without a script decides in the run of the scenario that the input spells. The
-/// output never says no.
-///
-/// # Errors
-///
-/// `Scenario` with the first fault of an input that spells no scenario; `Memory` if memory is refused.
-pub fn decide(alloc: Global, input: &[u8]) -> Result<Output, JobFault>
-    ensures answer { IfOk result (λ o. IsDecided input.now o.text.items o.negative) }
-    ensures fault { IfErr result (IsDecideFault input.now) }
-{
-    decide_in(alloc, Form::Text, input)
 }
 
 /// Reads a scenario text to its end, and writes in this form what each general without a script decides; nothing if the
@@ -100,7 +87,7 @@ pub fn decide_engine<R: Read, W: Write>(
     ensures late { KeepsUntilWhole (W.contents writer.old) (W.contents writer.new) result }
 {
     match read_all(alloc, reader) {
-        Ok(input) => deliver(writer, decide_in(alloc, form, &input)),
+        Ok(input) => deliver(writer, decide(alloc, form, &input)),
         Err(fault) => JobEnd::Failed(fault),
     }
 }

@@ -45,16 +45,13 @@ pub use auditing::{audit_as_asked, audit_engine};
 pub use bundle_text::{BundleText, deliver_bundle};
 pub use campaign_text::{CampaignText, deliver_campaign};
 pub use campaigning::{campaign, campaign_engine};
-pub use checking::{evidence, evidence_as_asked, evidence_engine, evidence_in};
-pub use deciding::{decide, decide_engine, decide_in};
+pub use checking::{evidence, evidence_engine};
+pub use deciding::{decide, decide_engine};
 pub use drawing::{draw_as_asked, draw_engine};
 pub use ends::{JobEnd, JobFault, Output};
 pub use fault_json::job_fault_json;
 pub use fault_lines::job_fault_line;
-pub use in_place::{
-    accuse_asked_in_place, accuse_in_place, audit_asked_in_place, audit_form_in_place,
-    audit_in_place, draw_asked_in_place, draw_in_place,
-};
+pub use in_place::{accuse_in_place, audit_in_place, draw_in_place};
 pub use input_kinds::{InputKind, input_kind};
 pub use jobs::do_job;
 pub use joining::{answer, join_in_pieces};

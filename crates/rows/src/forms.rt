@@ -5,11 +5,9 @@ ghost use Rattle.gen_asked.specs.Ranges.{IsInRange};
 use gen_asked::{Asked, AskedRuns, Faulty, Form as Answering, Job};
 use gen_audit::WorkerCount;
 use gen_jobs::{
-    JobEnd, JobFault, Output, accuse_as_asked, accuse_asked_in_place, accuse_in_place,
-    audit_as_asked, audit_asked_in_place, audit_form_in_place, audit_in_place, campaign, decide,
-    decide_in, deliver, do_job, draw_as_asked, draw_asked_in_place, draw_in_place, evidence,
-    evidence_as_asked, evidence_in, header, judge_as_asked, plan, root, run_in_pieces, show_in,
-    tell,
+    JobEnd, JobFault, Output, accuse_as_asked, accuse_in_place, audit_as_asked, audit_in_place,
+    campaign, decide, deliver, do_job, draw_as_asked, draw_in_place, evidence, header,
+    judge_as_asked, plan, root, run_in_pieces, show_in, tell,
 };
 use gen_types::GeneralNo;
 use std::alloc::Global;
@@ -79,14 +77,6 @@ fn by_three<R: Threads + Wait + Sync>(
     accuse_as_asked(rt, alloc, three, asked, general, input.to_vec(alloc)?)
 }
 
-/// Returns what the calls of `decide` over bytes give.
-fn decided(alloc: Global, form: Answering, input: &[u8]) -> Result<Output, JobFault> {
-    match form {
-        Answering::Text => decide(alloc, input),
-        Answering::Json => decide_in(alloc, form, input),
-    }
-}
-
 /// Returns what the call of `audit` over bytes gives.
 fn audited<R: Threads + Wait + Sync>(
     rt: &R,
@@ -112,22 +102,6 @@ fn drawn<R: Threads + Wait + Sync>(
     draw_as_asked(rt, alloc, workers, asked, input.to_vec(alloc)?)
 }
 
-/// Returns what the calls of `evidence` over bytes give.
-fn checked(
-    alloc: Global,
-    asked: AskedRuns,
-    form: Answering,
-    input: &[u8],
-) -> Result<Output, JobFault> {
-    if form == Answering::Json {
-        return evidence_in(alloc, form, asked, input);
-    }
-    match asked {
-        AskedRuns::Any => evidence(alloc, input),
-        _ => evidence_as_asked(alloc, asked, input),
-    }
-}
-
 /// Returns what the call of a job over bytes gives; that of `accuse` is by three workers.
 fn by_bytes<R: Threads + Wait + Sync>(
     rt: &R,
@@ -138,7 +112,7 @@ fn by_bytes<R: Threads + Wait + Sync>(
     requires { IsInRange job }
 {
     match job {
-        Job::Decide { form } => decided(alloc, form, input),
+        Job::Decide { form } => decide(alloc, form, input),
         Job::Run { capacity } => run_output(rt, alloc, capacity, input),
         Job::Judge {
             capacity,
@@ -155,63 +129,12 @@ fn by_bytes<R: Threads + Wait + Sync>(
         } => audited(rt, alloc, workers, &asked, form, strict, input),
         Job::Draw { workers, asked } => drawn(rt, alloc, workers, &asked, input),
         Job::Accuse { general, asked } => by_three(rt, alloc, general, asked, input),
-        Job::Evidence { asked, form } => checked(alloc, asked, form, input),
+        Job::Evidence { asked, form } => evidence(alloc, form, asked, input),
         Job::Show { asked, form } => show_in(alloc, form, asked, input),
         Job::Root { height } => root(alloc, height, input),
         Job::Header { version } => header(alloc, version, input),
         Job::Plan { version } => plan(alloc, version, input),
         Job::Tell { what } => tell(alloc, what, input),
-    }
-}
-
-/// Returns what the calls of `audit` give that start no thread, or those over bytes for what no such call has.
-fn audited_in_place<R: Threads + Wait + Sync>(
-    rt: &R,
-    alloc: Global,
-    workers: WorkerCount,
-    asked: &Asked,
-    form: Answering,
-    strict: bool,
-    input: &[u8],
-) -> Result<Output, JobFault> {
-    if asked.faulty != Faulty::Listed {
-        audited(rt, alloc, workers, asked, form, strict, input)
-    } else if form == Answering::Json {
-        audit_form_in_place(alloc, form, asked.runs, strict, input)
-    } else if strict || asked.runs != AskedRuns::Any {
-        audit_asked_in_place(alloc, asked.runs, strict, input)
-    } else {
-        audit_in_place(alloc, input)
-    }
-}
-
-/// Returns what the calls of `draw` give that start no thread, or those over bytes for what no such call has.
-fn drawn_in_place<R: Threads + Wait + Sync>(
-    rt: &R,
-    alloc: Global,
-    workers: WorkerCount,
-    asked: &Asked,
-    input: &[u8],
-) -> Result<Output, JobFault> {
-    if asked.faulty != Faulty::Listed {
-        drawn(rt, alloc, workers, asked, input)
-    } else if asked.runs != AskedRuns::Any {
-        draw_asked_in_place(alloc, asked.runs, input)
-    } else {
-        draw_in_place(alloc, input)
-    }
-}
-
-/// Returns what the calls of `accuse` give that start no thread.
-fn accused_in_place(
-    alloc: Global,
-    general: GeneralNo,
-    asked: AskedRuns,
-    input: &[u8],
-) -> Result<Output, JobFault> {
-    match asked {
-        AskedRuns::Any => accuse_in_place(alloc, general, input),
-        _ => accuse_asked_in_place(alloc, asked, general, input),
     }
 }
 
@@ -226,13 +149,17 @@ fn in_place<R: Threads + Wait + Sync>(
 {
     match job {
         Job::Audit {
-            workers,
             asked,
             strict,
             form,
-        } => audited_in_place(rt, alloc, workers, &asked, form, strict, input),
-        Job::Draw { workers, asked } => drawn_in_place(rt, alloc, workers, &asked, input),
-        Job::Accuse { general, asked } => accused_in_place(alloc, general, asked, input),
+            ..
+        } if asked.faulty == Faulty::Listed => {
+            audit_in_place(alloc, form, asked.runs, strict, input)
+        }
+        Job::Draw { asked, .. } if asked.faulty == Faulty::Listed => {
+            draw_in_place(alloc, asked.runs, input)
+        }
+        Job::Accuse { general, asked } => accuse_in_place(alloc, asked, general, input),
         _ => by_bytes(rt, alloc, job, input),
     }
 }

@@ -30,20 +30,18 @@
 //! process. The contract of each function says what `Handed` and its `IsHanded` mean for it, or `Made` and its `IsMade`.
 #![tactic(auto)]
 
-ghost use Rattle.std.specs.Prelude.{ℕ, ◌≡◌, ◌<◌, ◌≤◌, None};
+ghost use Rattle.std.specs.Prelude.{ℕ, ◌≡◌, ◌<◌, ◌≤◌, None, false};
 ghost use Rattle.gen_prepare.specs.Answering.{IsAnswered};
 ghost use Rattle.gen_net.specs.declared.version.Version.TheVariants.{One};
-ghost use Rattle.gen_jobs.specs.Accusing.{IsAccused};
-ghost use Rattle.gen_jobs.specs.Asking.{IsAccusedOf, IsAuditedAs, IsAuditedIn, IsCheckedIn, IsCheckedOf};
-ghost use Rattle.gen_jobs.specs.Asking.{IsDrawnOf, IsEvidenceFaultOf, IsShowFault};
-ghost use Rattle.gen_jobs.specs.Audit.{IsAudited, IsAuditFault};
-ghost use Rattle.gen_jobs.specs.Checking.{IsChecked, IsEvidenceFault};
-ghost use Rattle.gen_jobs.specs.Decide.{IsDecided, IsDecidedIn, IsDecideFault};
-ghost use Rattle.gen_jobs.specs.Drawing.{IsDrawn};
+ghost use Rattle.gen_jobs.specs.Asking.{IsAccusedOf, IsAuditedIn, IsCheckedIn, IsDrawnOf};
+ghost use Rattle.gen_jobs.specs.Asking.{IsEvidenceFaultOf, IsShowFault};
+ghost use Rattle.gen_jobs.specs.Decide.{IsDecidedIn, IsDecideFault};
 ghost use Rattle.gen_jobs.specs.Joining.{IsReplyFault};
 ghost use Rattle.gen_jobs.specs.Planning.{IsPlan, IsPlanFault};
 ghost use Rattle.gen_jobs.specs.Showing.{IsShownFault, IsShownIn};
 ghost use Rattle.gen_jobs.specs.Telling.{IsMemory, IsTold};
+ghost use Rattle.gen_asked.specs.declared.asked_runs.AskedRuns.TheVariants.{Any};
+ghost use Rattle.gen_asked.specs.declared.forms.Form.TheVariants as forms;
 ghost use Rattle.gen_asked.specs.declared.telling.Telling.TheVariants as tellings;
 ghost use Rattle.sm_embed.specs.Handing.{IsHanded, IsUntouched};
 ghost use Rattle.sm_embed.specs.Knowing.{AccusesKnown, MakesKnownIf};
@@ -65,11 +63,9 @@ use crate::knowing::{accuse_known, accuse_known_of};
 use crate::making::{MISUSE, asked_in, form_in, hand_kept, keep};
 use crate::opaque::SmAnswer;
 use crate::runs::tell_runs;
-use gen_asked::Telling;
+use gen_asked::{AskedRuns, Form, Telling};
 use gen_jobs::{
-    accuse_asked_in_place, accuse_in_place, audit_asked_in_place, audit_form_in_place,
-    audit_in_place, decide, decide_in, draw_asked_in_place, draw_in_place, evidence,
-    evidence_as_asked, evidence_in, plan, show_in, tell,
+    accuse_in_place, audit_in_place, decide, draw_in_place, evidence, plan, show_in, tell,
 };
 use gen_net::Version;
 use gen_types::GeneralNo;
@@ -85,18 +81,22 @@ const NOBODY: u32 = 6;
 /// Hands over the verdict on the bundle or the campaign that the input spells, as the command `audit` writes it.
 #[unsafe(no_mangle)]
 pub extern "C" fn sm_audit(alloc: Global, input: &[u8], room: &mut [u8], count: &mut usize) -> u32
-    ensures { IsHanded (IsAudited input.now) (IsAuditFault input.now) room.old room.new count.new result }
+    ensures { IsHanded (IsAuditedIn forms.Text Any false input.now) (IsShowFault Any input.now)
+        room.old room.new count.new result }
 {
-    hand(alloc, audit_in_place(alloc, input), room, count).status()
+    let answered = audit_in_place(alloc, Form::Text, AskedRuns::Any, false, input);
+    hand(alloc, answered, room, count).status()
 }
 
 /// Hands over the picture of the bundle or the campaign that the input spells, and of the judgement on it: the SVG text
 /// that the command `draw` writes. It never says no.
 #[unsafe(no_mangle)]
 pub extern "C" fn sm_draw(alloc: Global, input: &[u8], room: &mut [u8], count: &mut usize) -> u32
-    ensures { IsHanded (IsDrawn input.now) (IsAuditFault input.now) room.old room.new count.new result }
+    ensures { IsHanded (IsDrawnOf Any input.now) (IsShowFault Any input.now)
+        room.old room.new count.new result }
 {
-    hand(alloc, draw_in_place(alloc, input), room, count).status()
+    let answered = draw_in_place(alloc, AskedRuns::Any, input);
+    hand(alloc, answered, room, count).status()
 }
 
 /// Hands over the evidence that the bundle or the campaign in the input holds against a general: the bytes that the
@@ -110,7 +110,8 @@ pub extern "C" fn sm_accuse(
     count: &mut usize,
 ) -> u32
     ensures general { general < 16 →
-        IsHanded (IsAccused general input.now) (IsAuditFault input.now) room.old room.new count.new result }
+        IsHanded (IsAccusedOf Any general input.now) (IsShowFault Any input.now)
+        room.old room.new count.new result }
     // The number is 16 or more, so it is no general's.
     ensures nobody { 16 ≤ general → (result ≡ 2) × IsUntouched room.old room.new count.new }
 {
@@ -119,7 +120,8 @@ pub extern "C" fn sm_accuse(
         return MISUSE;
     }
     let accused = GeneralNo::at(general as u8);
-    hand(alloc, accuse_in_place(alloc, accused, input), room, count).status()
+    let answered = accuse_in_place(alloc, AskedRuns::Any, accused, input);
+    hand(alloc, answered, room, count).status()
 }
 
 /// Hands over whether the evidence that the input spells holds, as the command `evidence` writes it.
@@ -130,18 +132,21 @@ pub extern "C" fn sm_evidence(
     room: &mut [u8],
     count: &mut usize,
 ) -> u32
-    ensures { IsHanded (IsChecked input.now) (IsEvidenceFault input.now) room.old room.new count.new result }
+    ensures { IsHanded (IsCheckedIn forms.Text Any input.now) (IsEvidenceFaultOf Any input.now)
+        room.old room.new count.new result }
 {
-    hand(alloc, evidence(alloc, input), room, count).status()
+    let answered = evidence(alloc, Form::Text, AskedRuns::Any, input);
+    hand(alloc, answered, room, count).status()
 }
 
 /// Hands over what each general without a script decides in the run of the scenario that the input spells, as the
 /// command `decide` writes it.
 #[unsafe(no_mangle)]
 pub extern "C" fn sm_decide(alloc: Global, input: &[u8], room: &mut [u8], count: &mut usize) -> u32
-    ensures { IsHanded (IsDecided input.now) (IsDecideFault input.now) room.old room.new count.new result }
+    ensures { IsHanded (IsDecidedIn forms.Text input.now) (IsDecideFault input.now)
+        room.old room.new count.new result }
 {
-    hand(alloc, decide(alloc, input), room, count).status()
+    hand(alloc, decide(alloc, Form::Text, input), room, count).status()
 }
 
 /// Hands over the evidence that the bundle or the campaign in the input holds against a general, as `sm_accuse` does, but
@@ -217,14 +222,14 @@ pub extern "C" fn sm_audit_of(
     input: &[u8],
     answer: &mut SmAnswer,
 ) -> u32
-    ensures { MakesIf (λ asked. IsAuditedAs asked (is_strict strict) input.now)
+    ensures { MakesIf (λ asked. IsAuditedIn forms.Text asked (is_strict strict) input.now)
         (λ asked. IsShowFault asked input.now) (asked_in runs.now) answer.new.held result }
 {
     answer.clear(alloc);
     let Some(asked) = asked_in(runs) else {
         return MISUSE;
     };
-    let answered = audit_asked_in_place(alloc, asked, strict != 0, input);
+    let answered = audit_in_place(alloc, Form::Text, asked, strict != 0, input);
     keep(alloc, answered, answer).status()
 }
 
@@ -244,7 +249,7 @@ pub extern "C" fn sm_draw_of(
     let Some(asked) = asked_in(runs) else {
         return MISUSE;
     };
-    keep(alloc, draw_asked_in_place(alloc, asked, input), answer).status()
+    keep(alloc, draw_in_place(alloc, asked, input), answer).status()
 }
 
 /// Makes the answer of the evidence that the bundle or the campaign in the input holds against a general: the bytes that
@@ -271,12 +276,7 @@ pub extern "C" fn sm_accuse_of(
         return MISUSE;
     };
     let accused = GeneralNo::at(general as u8);
-    keep(
-        alloc,
-        accuse_asked_in_place(alloc, asked, accused, input),
-        answer,
-    )
-    .status()
+    keep(alloc, accuse_in_place(alloc, asked, accused, input), answer).status()
 }
 
 /// Makes the answer of whether the evidence that the input spells holds, as the command `evidence` writes it. The input
@@ -288,14 +288,15 @@ pub extern "C" fn sm_evidence_of(
     input: &[u8],
     answer: &mut SmAnswer,
 ) -> u32
-    ensures { MakesIf (λ asked. IsCheckedOf asked input.now) (λ asked. IsEvidenceFaultOf asked input.now)
-        (asked_in runs.now) answer.new.held result }
+    ensures { MakesIf (λ asked. IsCheckedIn forms.Text asked input.now)
+        (λ asked. IsEvidenceFaultOf asked input.now) (asked_in runs.now) answer.new.held result }
 {
     answer.clear(alloc);
     let Some(asked) = asked_in(runs) else {
         return MISUSE;
     };
-    keep(alloc, evidence_as_asked(alloc, asked, input), answer).status()
+    let answered = evidence(alloc, Form::Text, asked, input);
+    keep(alloc, answered, answer).status()
 }
 
 /// Makes the answer of what a file is, line by line, as the command `show` writes it. It says no if the file is no whole
@@ -426,7 +427,7 @@ pub extern "C" fn sm_audit_as(
     let Some(asked) = asked_in(runs) else {
         return MISUSE;
     };
-    let answered = audit_form_in_place(alloc, told, asked, strict != 0, input);
+    let answered = audit_in_place(alloc, told, asked, strict != 0, input);
     keep(alloc, answered, answer).status()
 }
 
@@ -451,7 +452,7 @@ pub extern "C" fn sm_evidence_as(
     let Some(asked) = asked_in(runs) else {
         return MISUSE;
     };
-    keep(alloc, evidence_in(alloc, told, asked, input), answer).status()
+    keep(alloc, evidence(alloc, told, asked, input), answer).status()
 }
 
 /// Makes the answer of what each general without a script decides in the run of the scenario that the input spells, in
@@ -466,7 +467,7 @@ pub extern "C" fn sm_decide_as(alloc: Global, form: u32, input: &[u8], answer: &
     let Some(told) = form_in(form) else {
         return MISUSE;
     };
-    keep(alloc, decide_in(alloc, told, input), answer).status()
+    keep(alloc, decide(alloc, told, input), answer).status()
 }
 
 /// Makes the answer of what a file is, in a form: 0 for lines of text, as `sm_show` makes it, and 1 for lines of JSON, as
