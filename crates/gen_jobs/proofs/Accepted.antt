@@ -32,16 +32,14 @@ use Rattle.gen_audit.proofs.RunBundles.{world_is_bundle}
 use Rattle.gen_audit.proofs.Worlds.{world_is_accepted}
 use Rattle.gen_jobs.specs.Accepted.{IsSound, IsSoundIf, IsStrictlySound, RunsAreAccepted, RunsAreAcceptedBy, RunsAreJudged, RunsAreJudgedBy, RunsAreRead, alone}
 use Rattle.gen_json.specs.OriginData.{Origin}
-use Rattle.gen_jobs.specs.Asking.{AuditsAs, IsAuditedFrom, IsAuditedIn, counts_as_no, has_few, have_few, shared_roots}
+use Rattle.gen_jobs.specs.Asking.{AuditsAs, IsAuditedFrom, counts_as_no, has_few, have_few, shared_roots}
 use Rattle.gen_jobs.specs.Audit.{Audits, is_no}
 use Rattle.gen_jobs.specs.Holding.{IsHeldAs}
 use Rattle.gen_jobs.specs.Judging.{JudgesRun}
 use Rattle.gen_jobs.specs.Origins.{nothing_asked}
 use Rattle.gen_asked.specs.declared.asked.Asked.{Asked}
-use Rattle.gen_asked.specs.declared.asked_runs.AskedRuns.TheVariants.{Any}
 use Rattle.gen_asked.specs.declared.faulty.Faulty.{Faulty}
 use Rattle.gen_asked.specs.declared.faulty.Faulty.TheVariants.{Listed, These}
-use Rattle.gen_asked.specs.declared.forms.Form.TheVariants.{Text}
 use Rattle.gen_jobs.specs.Run.{IsRunAnswer}
 
 -- the bytes of what is shown stand in the bundle's
@@ -162,25 +160,14 @@ runs_are_judged_by input text report said negative asked origin strict run below
 
 -- ---- where nothing is asked
 
--- the judgement on any runs, as text and not strictly, is that where nothing is asked
-pub of_any : (text report : List ℕ) (negative : Bool) → IsAuditedIn Text Any false text report negative → IsAuditedFrom nothing_asked None false text report negative
-of_any text report negative audited = record {
-  shown = audited.shown;
-  spelled = audited.spelled;
-  runs = audited.runs;
-  held = audited.shown;
-  held_is = refl;
-  answers = audited.answers;
-}
-
 -- what is not asked strictly asks no more of a scenario
 pub not_strictly : (s : Scenario) → IsSoundIf false s
 not_strictly s e = absurd cc
 
 pub runs_are_accepted : RunsAreAccepted
 runs_are_accepted input text report said negative run below sound audited =
-    runs_are_accepted_by input text report said negative nothing_asked None false run below sound (not_strictly run.scenario) refl (of_any text report negative audited)
+    runs_are_accepted_by input text report said negative nothing_asked None false run below sound (not_strictly run.scenario) refl audited
 
 pub runs_are_judged : RunsAreJudged
 runs_are_judged input text report said negative run below audited =
-    runs_are_judged_by input text report said negative nothing_asked None false run below refl (of_any text report negative audited)
+    runs_are_judged_by input text report said negative nothing_asked None false run below refl audited

@@ -35,7 +35,7 @@ use Rattle.gen_jobs.specs.Asking.{AuditsAs, has_few, have_few, shared_roots}
 use Rattle.gen_jobs.specs.Campaigning.{IsCampaignRun}
 use Rattle.gen_jobs.specs.Origins.{nothing_asked}
 use Rattle.gen_jobs.specs.Run.{IsOfRun}
-use Rattle.gen_jobs.proofs.Accepted.{counts_not, few_scripted, held_shown, is_acceptable, not_strictly, of_any, shown_bytes}
+use Rattle.gen_jobs.proofs.Accepted.{counts_not, few_scripted, held_shown, is_acceptable, not_strictly, shown_bytes}
 
 -- ---- the scenarios of a campaign
 
@@ -165,4 +165,4 @@ campaigns_are_accepted_by input text report said negative asked origin strict ru
 pub campaigns_are_accepted : CampaignsAreAccepted
 campaigns_are_accepted input text report said negative run below sound audited =
     let not_strict = All_of (IsSoundIf false) run.runs (λ s at. not_strictly s) in
-    campaigns_are_accepted_by input text report said negative nothing_asked None false run below sound not_strict refl (of_any text report negative audited)
+    campaigns_are_accepted_by input text report said negative nothing_asked None false run below sound not_strict refl audited

@@ -54,7 +54,7 @@ fn output_for(
 /// `Evidence` with the first fault of an input that spells no evidence; else `OtherRun` if the run is another. `Memory`
 /// if memory is refused.
 #[tactic(auto, using(crate::proofs::AskedFaults::of_other))]
-pub fn evidence(
+pub(crate) fn evidence(
     alloc: Global,
     form: Form,
     asked: AskedRuns,

@@ -53,7 +53,7 @@ fn told_in(alloc: Global, form: Form, told: ScenarioText) -> Result<Vec<u8>, All
 /// # Errors
 ///
 /// `Scenario` with the first fault of an input that spells no scenario; `Memory` if memory is refused.
-pub fn decide(alloc: Global, form: Form, input: &[u8]) -> Result<Output, JobFault>
+pub(crate) fn decide(alloc: Global, form: Form, input: &[u8]) -> Result<Output, JobFault>
     ensures answer { IfOk result (λ o. IsDecidedIn form input.now o.text.items o.negative) }
     ensures fault { IfErr result (IsDecideFault input.now) }
 {

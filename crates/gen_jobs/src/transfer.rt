@@ -31,7 +31,7 @@ pub fn read_all<R: Read>(alloc: Global, reader: &mut R) -> Result<Vec<u8>, JobFa
 
 /// Writes the whole output, and returns how the job ends: Done, Negative if the output says no, or with the fault
 /// Write.
-pub fn write_output<W: Write>(writer: &mut W, output: &Output) -> JobEnd
+fn write_output<W: Write>(writer: &mut W, output: &Output) -> JobEnd
     ensures { IsWritten output.now.text.items output.now.negative
         (W.contents writer.old) (W.contents writer.new) result }
 {

@@ -4,9 +4,11 @@ use Rattle.std.specs.List.{list_any}
 use Rattle.gen_types.specs.Spelled.{Spells}
 use Rattle.gen_campaign.specs.Campaign.{CampaignBundle, IsCampaign}
 use Rattle.gen_campaign.specs.CampaignSpelling.{campaign_spelling}
-use Rattle.gen_jobs.specs.Asking.{IsAccusedOf, IsShowFault}
+use Rattle.gen_jobs.specs.Asking.{IsAccusedOf}
+use Rattle.gen_jobs.specs.Jobs.{JobFails}
 use Rattle.gen_asked.specs.declared.asked_runs.AskedRuns.{AskedRuns}
 use Rattle.gen_asked.specs.declared.asked_runs.AskedRuns.TheVariants.{Any}
+use Rattle.gen_asked.specs.declared.jobs.Job.TheVariants.{Accuse}
 use Rattle.gen_jobs.specs.declared.ends.JobFault.{JobFault}
 use Rattle.gen_jobs.specs.declared.ends.Output.{Output}
 use Rattle.sm_embed.specs.Handing.{IsHanded, IsUntouched}
@@ -38,7 +40,7 @@ TellsKnown general input (Some o) = IsAccusedKnownOf Any general input o.text.it
 abbrev pub AccusesKnown : ℕ → List ℕ → List ℕ → List ℕ → ℕ → ℕ → Type 0
 AccusesKnown general input old new count status =
     ((status ≡ 6) × IsUntouched old new count × Knows general input false)
-    ⊎ IsHanded (IsAccusedKnownOf Any general input) (IsShowFault Any input) old new count status
+    ⊎ IsHanded (IsAccusedKnownOf Any general input) (JobFails (Accuse general Any) input) old new count status
 
 -- ---- the same for an answer that is kept, of the runs that are asked for
 
@@ -60,7 +62,7 @@ TellsKnownOf asked general input (Some o) =
 abbrev pub IsMadeKnown : ℕ → List ℕ → AskedRuns → Option Kept → ℕ → Type 0
 IsMadeKnown general input asked held status =
     ((status ≡ 6) × (held ≡ None) × IsNobodyOf asked general input)
-    ⊎ IsMade (IsAccusedKnownOf asked general input) (IsShowFault asked input) held status
+    ⊎ IsMade (IsAccusedKnownOf asked general input) (JobFails (Accuse general asked) input) held status
 
 -- runs are asked for: more than four are misuse
 abbrev pub MakesKnownIf : ℕ → List ℕ → Option AskedRuns → Option Kept → ℕ → Type 0
