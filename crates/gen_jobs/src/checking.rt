@@ -8,8 +8,8 @@ ghost use Rattle.gen_jobs.specs.Checking.{Tells};
 ghost use Rattle.gen_jobs.specs.Ends.{IsTaken, KeepsUntilWhole};
 
 use crate::ends::{JobEnd, JobFault, Output};
-use crate::transfer::{deliver, read_all};
-use gen_asked::{AskedRuns, Form};
+use crate::in_place::engine_in_place;
+use gen_asked::{AskedRuns, Form, Job};
 use gen_convict::{Evidence, check_evidence, read_evidence};
 use gen_json::print_evidence_json;
 use gen_net::Header;
@@ -76,7 +76,6 @@ pub(crate) fn evidence(
 ///
 /// A fault of the input is looked for after the whole input was read, and nothing is written before the output is
 /// whole. If a read, a write or memory fails, the job ends with that fault.
-#[tactic(auto, using(crate::proofs::Delivering::output_engine))]
 pub fn evidence_engine<R: Read, W: Write>(
     alloc: Global,
     form: Form,
@@ -93,8 +92,5 @@ pub fn evidence_engine<R: Read, W: Write>(
     // Nothing is written before the output is whole.
     ensures late { KeepsUntilWhole (W.contents writer.old) (W.contents writer.new) result }
 {
-    match read_all(alloc, reader) {
-        Ok(input) => deliver(writer, evidence(alloc, form, asked, &input)),
-        Err(fault) => JobEnd::Failed(fault),
-    }
+    engine_in_place(alloc, Job::Evidence { asked, form }, None, reader, writer)
 }

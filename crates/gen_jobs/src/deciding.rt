@@ -5,8 +5,8 @@ ghost use Rattle.gen_jobs.specs.Decide.{IsDecidedIn, IsDecideFault, told_text};
 ghost use Rattle.gen_jobs.specs.Ends.{IsTaken, KeepsUntilWhole};
 
 use crate::ends::{JobEnd, JobFault, Output};
-use crate::transfer::{deliver, read_all};
-use gen_asked::Form;
+use crate::in_place::engine_in_place;
+use gen_asked::{Form, Job};
 use gen_json::print_decisions_json;
 use gen_report::{ScenarioText, print_decisions, read_scenario};
 use gen_scenario::Scenario;
@@ -70,7 +70,6 @@ pub(crate) fn decide(alloc: Global, form: Form, input: &[u8]) -> Result<Output, 
 ///
 /// A fault of the input is looked for after the whole input was read, and nothing is written before the output is
 /// whole. If a read, a write or memory fails, the job ends with that fault.
-#[tactic(auto, using(crate::proofs::Delivering::output_engine))]
 pub fn decide_engine<R: Read, W: Write>(
     alloc: Global,
     form: Form,
@@ -86,8 +85,5 @@ pub fn decide_engine<R: Read, W: Write>(
     // Nothing is written before the output is whole.
     ensures late { KeepsUntilWhole (W.contents writer.old) (W.contents writer.new) result }
 {
-    match read_all(alloc, reader) {
-        Ok(input) => deliver(writer, decide(alloc, form, &input)),
-        Err(fault) => JobEnd::Failed(fault),
-    }
+    engine_in_place(alloc, Job::Decide { form }, None, reader, writer)
 }

@@ -8,8 +8,6 @@ ghost use Rattle.gen_asked.specs.Ranges.{IsInRange};
 use crate::accusing::accuse_engine;
 use crate::auditing::audit_engine;
 use crate::campaigning::campaign_engine;
-use crate::checking::evidence_engine;
-use crate::deciding::decide_engine;
 use crate::drawing::draw_engine;
 use crate::ends::JobEnd;
 use crate::in_place::engine_in_place;
@@ -46,7 +44,6 @@ pub fn do_job<T: Threads + Wait + Sync, R: Read, W: Write>(
     ensures late { KeepsUntilWhole (W.contents writer.old) (W.contents writer.new) result }
 {
     match job {
-        Job::Decide { form } => decide_engine(alloc, form, reader, writer),
         Job::Run { capacity } => run_engine(rt, alloc, capacity, reader, writer),
         Job::Judge {
             capacity,
@@ -77,7 +74,6 @@ pub fn do_job<T: Threads + Wait + Sync, R: Read, W: Write>(
                 writer,
             )
         }
-        Job::Evidence { asked, form } => evidence_engine(alloc, form, asked, reader, writer),
         _ => engine_in_place(alloc, job, name, reader, writer),
     }
 }
