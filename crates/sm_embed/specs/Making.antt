@@ -10,7 +10,6 @@ use Rattle.gen_asked.specs.declared.asked_runs.AskedRuns.TheVariants.{Any}
 use Rattle.gen_jobs.specs.declared.ends.JobFault.{JobFault}
 use Rattle.gen_jobs.specs.declared.ends.JobFault.TheVariants as faults
 use Rattle.gen_jobs.specs.declared.ends.Output.{Output}
-use Rattle.gen_asked.specs.declared.asked.Asked.{Asked}
 use Rattle.gen_asked.specs.declared.faulty.Faulty.TheVariants.{Listed}
 use Rattle.gen_asked.specs.declared.forms.Form.{Form}
 use Rattle.gen_asked.specs.declared.forms.Form.TheVariants.{Text, Json}
