@@ -94,6 +94,7 @@ static void make_header(uint8_t traitors) {
     uint8_t roots[GENERALS * 32], edges[240];
     size_t edge = 0;
     uint32_t fault;
+    sm_pair equal;
     for (int a = 0; a < GENERALS; a++) {
         seeds[a][0] = (uint8_t)a;
         int64_t since = now();
@@ -102,7 +103,7 @@ static void make_header(uint8_t traitors) {
         for (int b = a + 1; b < GENERALS; b++) edges[edge++] = (uint8_t)a, edges[edge++] = (uint8_t)b;
     }
     sm_numbers numbers = {1, 0, GENERALS, traitors, 1, 2, 0};
-    if (sm_node_header(&numbers, edges, edge / 2, roots, GENERALS, header, sizeof header, &header_bytes, &fault) != SM_OK)
+    if (sm_node_header(&numbers, edges, edge / 2, roots, GENERALS, header, sizeof header, &header_bytes, &fault, &equal))
         exit(3);
 }
 

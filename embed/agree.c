@@ -105,11 +105,12 @@ static void play(struct run *run) {
 static uint8_t *make_bundle(const struct run *run, size_t *bundle_bytes) {
     size_t length;
     uint32_t fault = 0;
-    uint32_t status = sm_node_bundle(run->header, run->header_bytes, 0, run->log, NODES, run->logs, run->log_bytes,
-                                     NULL, 0, &length, &fault);
+    sm_pair apart;
+    uint32_t status = sm_node_bundle(run->header, run->header_bytes, 0, 0, run->log, NODES, run->logs, run->log_bytes,
+                                     NULL, 0, &length, &fault, &apart);
     uint8_t *bundle = room_for("sm_node_bundle", status, fault, NULL, length);
-    status = sm_node_bundle(run->header, run->header_bytes, 0, run->log, NODES, run->logs, run->log_bytes, bundle,
-                            length, bundle_bytes, &fault);
+    status = sm_node_bundle(run->header, run->header_bytes, 0, 0, run->log, NODES, run->logs, run->log_bytes, bundle,
+                            length, bundle_bytes, &fault, &apart);
     must("sm_node_bundle", status, fault);
     return bundle;
 }

@@ -64,8 +64,6 @@ extern "C" {
 #define sm_node_status sm_status
 #define sm_root sm_node_root
 #define sm_header sm_node_header
-#define sm_bundle sm_node_bundle
-#define sm_bundle_parted sm_node_bundle_parted
 #define sm_header_numbers sm_node_header_numbers
 #define sm_rounds sm_node_rounds
 #define sm_neighbours sm_node_neighbours
@@ -105,6 +103,12 @@ typedef struct {
 typedef struct {
     uint32_t first, second;
 } sm_pair;
+
+/* What the head of a frame says: the id of its run, its round, the sender, the receiver, and how many parcels follow. */
+typedef struct {
+    uint8_t run_id[32];
+    uint32_t round, sender, receiver, parcel_count;
+} sm_frame_head;
 
 /* The general that a log is said to be of, and how many bytes the log has. */
 typedef struct {
@@ -183,19 +187,15 @@ void sm_node_free(sm_node *node);
    held for faulty, bit g for general g, and the logs that were collected, of all generals or of some. The library finds
    the walks between the other generals. There are at most 64 logs, and several may be of one general. They stand one
    after another in `bytes`, in ascending order of their generals. Their bytes may be anybody's, and sm_audit says what
-   they are. Faults of the header are reported first, then SM_U1 and SM_U2, then those of the bundle. SM_MISUSE if the
-   set has a general above 15, a general of a log is above 15, or the lengths of the logs do not add up to byte_count.
-   Returns SM_OK, SM_MISUSE, SM_FAULT, SM_MEMORY or SM_LENGTH. */
-uint32_t sm_node_bundle(const uint8_t *header, size_t header_bytes, uint32_t faulty, const sm_log *logs,
-                        size_t log_count, const uint8_t *bytes, size_t byte_count, uint8_t *room, size_t room_bytes,
-                        size_t *count, uint32_t *fault) SM_CALL(1, 4, 6, 8, 10, 11);
-
-/* Writes the bytes of a bundle, as sm_node_bundle, but there is no SM_U1 and no SM_U2: if two generals that are not held for
-   faulty have no walk of at most d edges, the bundle has no walks. The audit finds that, which is N10, and all else
-   that it finds in the logs. Returns SM_OK, SM_MISUSE, SM_FAULT, SM_MEMORY or SM_LENGTH. */
-uint32_t sm_node_bundle_parted(const uint8_t *header, size_t header_bytes, uint32_t faulty, const sm_log *logs,
-                               size_t log_count, const uint8_t *bytes, size_t byte_count, uint8_t *room,
-                               size_t room_bytes, size_t *count, uint32_t *fault) SM_CALL(1, 4, 6, 8, 10, 11);
+   they are. Faults of the header are reported first, then SM_U1 and SM_U2, then those of the bundle. At SM_U1 and SM_U2
+   *apart is the least pair of generals, not held for faulty, that have no walk of at most d edges, the lesser one first.
+   Otherwise it is 0 and 0. If `parted` is not 0, there is no SM_U1 and no SM_U2: the bundle then has no walks. The audit
+   finds that, which is N10, and all else that it finds in the logs. SM_MISUSE if the set has a general above 15, a
+   general of a log is above 15, or the lengths of the logs do not add up to byte_count. Returns SM_OK, SM_MISUSE,
+   SM_FAULT, SM_MEMORY or SM_LENGTH. */
+uint32_t sm_node_bundle(const uint8_t *header, size_t header_bytes, uint32_t faulty, uint32_t parted,
+                        const sm_log *logs, size_t log_count, const uint8_t *bytes, size_t byte_count, uint8_t *room,
+                        size_t room_bytes, size_t *count, uint32_t *fault, sm_pair *apart) SM_CALL(1, 5, 7, 9, 11, 12, 13);
 
 /* Reads the numbers of a header from its bytes. The slot of a header of version 1 is 0. The numbers stay as they were if
    it is not SM_OK. Returns SM_OK, SM_MISUSE, SM_FAULT or SM_MEMORY. */
@@ -216,6 +216,18 @@ uint32_t sm_node_neighbours(const uint8_t *header, size_t header_bytes, uint32_t
    A transport need not carry a longer one. *most is 0 if it is not SM_OK. Returns SM_OK, SM_MISUSE, SM_FAULT or
    SM_MEMORY. */
 uint32_t sm_node_frame_most(const uint8_t *header, size_t header_bytes, size_t *most, uint32_t *fault) SM_CALL(1, 3, 4);
+
+/* Tells the run id of this header: SHA-256 of the byte 0x31 and the header. It is what sm_run_id of sm_embed.h tells.
+   What was in run_id stays if it is not SM_OK. Returns SM_OK, SM_MISUSE, SM_FAULT or SM_MEMORY. */
+uint32_t sm_node_run_id(const uint8_t *header, size_t header_bytes, uint8_t run_id[32], uint32_t *fault)
+    SM_CALL(1, 3, 4);
+
+/* Reads the head of a frame, for a transport that keeps frames of later rounds. What follows the head is not looked at,
+   and no byte is anybody's word: sm_node_hear decides what is taken. *fault is SM_F3 if the bytes end before the head
+   does, and SM_F4 if they do not begin with the mark. What was in *head stays if it is not SM_OK. Returns SM_OK,
+   SM_MISUSE or SM_FAULT. */
+uint32_t sm_node_frame_head(const uint8_t *frame, size_t frame_bytes, sm_frame_head *head, uint32_t *fault)
+    SM_CALL(1, 3, 4);
 
 /* Tells the number of the round that began last, 0 before the first. A round that is half begun counts once the node
    has signed for it: so after SM_MEMORY of sm_node_begin_round it is the new round or the one before. SM_MISUSE if there
@@ -336,22 +348,22 @@ static inline uint32_t sm_checked_node_log(sm_node *node, uint8_t *room, size_t 
     if (sm_is_missing(room, room_bytes)) return SM_MISUSE;
     return sm_node_log(node, room ? room : &none, room_bytes, count);
 }
-#define SM_CHECKED_BUNDLE(name)                                                                                        \
-    SM_CALL(10, 11) static inline uint32_t sm_checked_##name(                                                          \
-        const uint8_t *header, size_t header_bytes, uint32_t faulty, const sm_log *logs, size_t log_count,             \
-        const uint8_t *bytes, size_t byte_count, uint8_t *room, size_t room_bytes, size_t *count, uint32_t *fault) {   \
-        uint8_t none[3] = {0, 0, 0};                                                                                   \
-        sm_log nobody = {0, 0};                                                                                        \
-        *count = 0;                                                                                                    \
-        *fault = 0;                                                                                                    \
-        if (sm_is_missing(header, header_bytes) || sm_is_missing(logs, log_count)) return SM_MISUSE;                   \
-        if (sm_is_missing(bytes, byte_count) || sm_is_missing(room, room_bytes)) return SM_MISUSE;                     \
-        return sm_##name(header ? header : none, header_bytes, faulty, logs ? logs : &nobody, log_count,               \
-                         bytes ? bytes : none + 1, byte_count, room ? room : none + 2, room_bytes, count, fault);      \
-    }
-SM_CHECKED_BUNDLE(node_bundle)
-SM_CHECKED_BUNDLE(node_bundle_parted)
-#undef SM_CHECKED_BUNDLE
+SM_CALL(11, 12, 13)
+static inline uint32_t sm_checked_node_bundle(const uint8_t *header, size_t header_bytes, uint32_t faulty,
+                                              uint32_t parted, const sm_log *logs, size_t log_count,
+                                              const uint8_t *bytes, size_t byte_count, uint8_t *room, size_t room_bytes,
+                                              size_t *count, uint32_t *fault, sm_pair *apart) {
+    uint8_t none[3] = {0, 0, 0};
+    sm_log nobody = {0, 0};
+    *count = 0;
+    *fault = 0;
+    apart->first = apart->second = 0;
+    if (sm_is_missing(header, header_bytes) || sm_is_missing(logs, log_count)) return SM_MISUSE;
+    if (sm_is_missing(bytes, byte_count) || sm_is_missing(room, room_bytes)) return SM_MISUSE;
+    return sm_node_bundle(header ? header : none, header_bytes, faulty, parted, logs ? logs : &nobody, log_count,
+                          bytes ? bytes : none + 1, byte_count, room ? room : none + 2, room_bytes, count, fault,
+                          apart);
+}
 SM_CALL(3, 4)
 static inline uint32_t sm_checked_node_header_numbers(const uint8_t *header, size_t header_bytes, sm_numbers *numbers,
                                                       uint32_t *fault) {
@@ -387,16 +399,33 @@ static inline uint32_t sm_checked_node_frame_most(const uint8_t *header, size_t 
     if (sm_is_missing(header, header_bytes)) return SM_MISUSE;
     return sm_node_frame_most(header ? header : &none, header_bytes, most, fault);
 }
+SM_CALL(3, 4)
+static inline uint32_t sm_checked_node_run_id(const uint8_t *header, size_t header_bytes, uint8_t run_id[32],
+                                              uint32_t *fault) {
+    uint8_t none = 0;
+    *fault = 0;
+    if (sm_is_missing(header, header_bytes)) return SM_MISUSE;
+    return sm_node_run_id(header ? header : &none, header_bytes, run_id, fault);
+}
+SM_CALL(3, 4)
+static inline uint32_t sm_checked_node_frame_head(const uint8_t *frame, size_t frame_bytes, sm_frame_head *head,
+                                                  uint32_t *fault) {
+    uint8_t none = 0;
+    *fault = 0;
+    if (sm_is_missing(frame, frame_bytes)) return SM_MISUSE;
+    return sm_node_frame_head(frame ? frame : &none, frame_bytes, head, fault);
+}
 #define sm_node_header sm_checked_node_header
 #define sm_node_new sm_checked_node_new
 #define sm_node_send sm_checked_node_send
 #define sm_node_hear sm_checked_node_hear
 #define sm_node_log sm_checked_node_log
 #define sm_node_bundle sm_checked_node_bundle
-#define sm_node_bundle_parted sm_checked_node_bundle_parted
 #define sm_node_header_numbers sm_checked_node_header_numbers
 #define sm_node_rounds sm_checked_node_rounds
 #define sm_node_neighbours sm_checked_node_neighbours
 #define sm_node_frame_most sm_checked_node_frame_most
+#define sm_node_run_id sm_checked_node_run_id
+#define sm_node_frame_head sm_checked_node_frame_head
 #endif
 #endif

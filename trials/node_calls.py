@@ -13,6 +13,7 @@ import ctypes
 import hashlib
 import os
 import shutil
+import struct
 import tempfile
 
 from embed import IsNotBuilt
@@ -125,11 +126,20 @@ def bundle_of(library, header, faulty, exhibits):
     told, whole = ctypes.c_uint32(77), b"".join(log for _, log in exhibits)
     sizes = b"".join(general.to_bytes(8, "little") + len(log).to_bytes(8, "little") for general, log in exhibits)
     lengths = [ctypes.c_size_t(it) for it in (len(header), len(exhibits), len(whole))]
-    words = header, lengths[0], faulty, sizes, lengths[1], whole, lengths[2]
+    words = header, lengths[0], faulty, 0, sizes, lengths[1], whole, lengths[2]
+    pair = (ctypes.c_uint32 * 2)()
     try:
-        return text_of(library, "sm_node_bundle", *words, ends=[ctypes.byref(told)])
+        return text_of(library, "sm_node_bundle", *words, ends=[ctypes.byref(told), ctypes.byref(pair)])
     except Wrong:
         return told.value
+
+
+def head_of(library, data):
+    """The head of a frame: its run id and its numbers."""
+    told, head = ctypes.c_uint32(77), ctypes.create_string_buffer(48)
+    ends = head, ctypes.byref(told)
+    same("sm_node_frame_head", library.call("sm_node_frame_head", data, ctypes.c_size_t(len(data)), *ends), DONE)
+    return (head.raw[:32], *struct.unpack("=4I", head.raw[32:]))
 
 
 def root_of(library, seed, version):
@@ -236,6 +246,8 @@ def drive(library, of, general):
                 same("the fault of a frame", node.hear(other, of.frame(number, other, general)), 0)
                 told = node.text("send", other)
                 same(f"frame {number} from {general} to {other}", told, of.frame(number, general, other))
+                count = len(of.parcels.get((number, general, other), ()))
+                same("its head", head_of(library, told), (run_id_of(of.header), number, general, other, count))
                 sent += len(told)
             node.call("end_round")
         log, order = node.end()

@@ -9,9 +9,11 @@ little stack.
 """
 import concurrent.futures
 import ctypes
+import hashlib
 import os
 import shutil
 import socket
+import struct
 import tempfile
 import threading
 import time
@@ -213,8 +215,7 @@ class Run:
         """The bytes of a header, or none."""
         ends = b"".join(map(bytes, edges))
         sizes = ctypes.c_size_t(len(edges)), ctypes.c_size_t(len(roots) // 32)
-        more = [ctypes.byref(self.pair)]
-        return self.text(status, "sm_node_header", bytes(of), ends, sizes[0], roots, sizes[1], tail=True, more=more)
+        return self.text(status, "sm_node_header", bytes(of), ends, sizes[0], roots, sizes[1], tail=True)
 
     def do(self, name, *words):
         """The status of a call; where memory is refused it is made again until it is not."""
@@ -228,9 +229,9 @@ class Run:
         if told != status:
             self.wrong.append(f"{name} answers {told}, not {status}")
 
-    def text(self, status, name, *words, tail=False, more=()):
-        """The bytes of a call, which has to answer so; where it has a tail, a fault is told too, and more behind it."""
-        count, ends = ctypes.c_size_t(77), [ctypes.byref(self.fault), *more] if tail else []
+    def text(self, status, name, *words, tail=False):
+        """The bytes of a call, which has to answer so; where it has a tail, a fault is told too, and a pair behind it."""
+        count, ends = ctypes.c_size_t(77), [ctypes.byref(self.fault), ctypes.byref(self.pair)] if tail else []
         self.want(SHORT if status == DONE else status, name, *words, b"", ctypes.c_size_t(0), ctypes.byref(count), *ends)
         if status != DONE:
             return b""
@@ -262,6 +263,11 @@ class Run:
         """The last call told this fault."""
         if self.fault.value != fault:
             self.wrong.append(f"the fault {self.fault.value}, not {fault}")
+
+    def apart(self, pair):
+        """The last call told this pair."""
+        if list(self.pair) != pair:
+            self.wrong.append(f"the pair {list(self.pair)}, not {pair}")
 
     def all_calls(self):
         """The run of the two, whose logs are its answer."""
@@ -322,13 +328,27 @@ class Run:
         self.want(DONE, "sm_node_order", self.at(general), ctypes.byref(order))
         return order.value
 
-    def bundle(self, status, logs, faulty=0, generals=(0, 1), cut=0, call="sm_node_bundle"):
+    def heads(self, given):
+        """The head of a frame, as its run id and its numbers, or the fault. What was there stays where there is a fault."""
+        head = ctypes.create_string_buffer(b"\7" * 48, 48)
+        status = self.do("sm_node_frame_head", given, ctypes.c_size_t(len(given)), head, ctypes.byref(self.fault))
+        if status == BAD and head.raw == b"\7" * 48:
+            return self.fault.value
+        return (head.raw[:32], *struct.unpack("=4I", head.raw[32:])) if (status, self.fault.value) == (DONE, 0) else None
+
+    def run_id(self, status=DONE):
+        """The run id of the header. What was there stays where the call is not done."""
+        told = ctypes.create_string_buffer(b"\7" * 32, 32)
+        self.want(status, "sm_node_run_id", self.header, ctypes.c_size_t(len(self.header)), told, ctypes.byref(self.fault))
+        return told.raw
+
+    def bundle(self, status, logs, faulty=0, generals=(0, 1), cut=0, parted=0):
         """The bytes of a bundle, or none."""
         sizes = b"".join(g.to_bytes(8, "little") + len(log).to_bytes(8, "little") for g, log in zip(generals, logs))
         whole = b"".join(logs)
         whole = whole[: len(whole) - cut]
-        words = (self.header, ctypes.c_size_t(len(self.header)), faulty, sizes, ctypes.c_size_t(len(logs)))
-        return self.text(status, call, *words, whole, ctypes.c_size_t(len(whole)), tail=True)
+        words = (self.header, ctypes.c_size_t(len(self.header)), faulty, parted, sizes, ctypes.c_size_t(len(logs)))
+        return self.text(status, "sm_node_bundle", *words, whole, ctypes.c_size_t(len(whole)), tail=True)
 
     def free(self):
         for general in range(2):
@@ -392,6 +412,12 @@ def bad_rounds(two):
     two.hear(1, frame)
     two.hear(1, frame, BAD)
     two.told(22)
+    heads = [(frame, (two.run_id(), 1, 0, 1, 1)), (frame[:41], (two.run_id(), 1, 0, 1, 1)), (b"", 23), (frame[:40], 23)]
+    heads += [(b"SMF", 23), (b"SMF2", 24), (b"SMF2" + frame[4:], 24), (bytes(50), 24)]
+    heads += [(b"SMF1" + bytes(range(32)) + b"\xff\xfe\xfd\xfc\xfb", (bytes(range(32)), 255, 254, 253, 0xFCFB))]
+    for given, wanted in heads:
+        if two.heads(given) != wanted:
+            two.wrong.append(f"the head {two.heads(given)}, not {wanted}")
 
 
 def bad_ends(two):
@@ -413,6 +439,7 @@ def bad_ends(two):
     ):
         two.bundle(status, **words)
         two.told(fault)
+        two.apart([0, 0])
 
 
 def bad_walks(two):
@@ -422,13 +449,21 @@ def bad_walks(two):
     for faulty, fault in ((2, 31), (0, 32)):
         two.bundle(BAD, [], faulty)
         two.told(fault)
-        made = two.bundle(DONE, [], faulty, call="sm_node_bundle_parted")
-        if made != b"SMB1" + two.header + bytes([0, faulty, 0, 0]):
-            two.wrong.append(f"a parted bundle {made[4 + len(two.header) :]}")
-    if two.bundle(DONE, [], 4, call="sm_node_bundle_parted") != two.bundle(DONE, [], 4):
+        two.apart([0, 2])
+        for parted in (1, 2**32 - 1):
+            made = two.bundle(DONE, [], faulty, parted=parted)
+            if made != b"SMB1" + two.header + bytes([0, faulty, 0, 0]):
+                two.wrong.append(f"a parted bundle {made[4 + len(two.header) :]}")
+            two.apart([0, 0])
+    if two.bundle(DONE, [], 4, parted=1) != two.bundle(DONE, [], 4):
         two.wrong.append("a bundle that is not parted is another")
-    two.bundle(BAD, [], 8, call="sm_node_bundle_parted")
+    two.bundle(BAD, [], 8, parted=1)
     two.told(44)
+    two.header = two.header_of(DONE, (1, 0, 4, 0, 1, 2, 0), [(0, 1), (0, 2), (0, 3)], bytes(range(128)))
+    for faulty, fault, pair in ((0, 32, [1, 2]), (1, 31, [1, 2]), (4, 32, [1, 3]), (3, 31, [2, 3])):
+        two.bundle(BAD, [], faulty)
+        two.told(fault)
+        two.apart(pair)
 
 
 def plans(two):
@@ -439,7 +474,12 @@ def plans(two):
         if two.plan(general=general) != wanted:
             two.wrong.append(f"the plan {two.plan(general=general)}, not {wanted}")
     two.tell(MISUSE, "sm_node_neighbours", two.header, ctypes.c_size_t(len(two.header)), 16, kind=ctypes.c_uint32)
+    if two.run_id() != hashlib.sha256(b"\x31" + two.header).digest():
+        two.wrong.append("the run id is another")
     two.header += b"\0"
+    if two.run_id(BAD) != b"\7" * 32:
+        two.wrong.append("a run id of bytes that are no header")
+    two.told(12)
     if two.plan(BAD) != (b"\7" * 7, 0, 0, 0):
         two.wrong.append(f"the plan of bytes that are no header {two.plan(BAD)}")
     two.told(12)
@@ -517,8 +557,7 @@ def header_wrong(library):
     for roots, pair in ((bytes(96), [0, 1]), (bytes(range(32)) + bytes(64), [1, 2]), (bytes(32) + bytes(range(32)) + bytes(32), [0, 2])):
         two.header_of(BAD, (1, 0, 3, 0, 1, 2, 0), [(0, 1)], roots)
         two.told(15)
-        if list(two.pair) != pair:
-            two.wrong.append(f"the pair {list(two.pair)}, not {pair}")
+        two.apart(pair)
     return "; ".join(two.wrong) or None
 
 

@@ -77,10 +77,12 @@ static void run_round(struct general *general, int round) {
     tell_heard(general);
 }
 
-/* Learns the rounds, the neighbours, and how long a frame may be, and makes room for frames. */
+/* Learns the run id, the rounds, the neighbours, and how long a frame may be, and makes room for frames. */
 static void know(struct general *general, struct bytes header) {
     uint32_t rounds, fault;
-    uint32_t status = sm_node_rounds(header.at, header.length, &rounds, &fault);
+    uint32_t status = sm_node_run_id(header.at, header.length, general->run_id, &fault);
+    must_fit(status, fault, "sm_node_run_id");
+    status = sm_node_rounds(header.at, header.length, &rounds, &fault);
     must_fit(status, fault, "sm_node_rounds");
     status = sm_node_neighbours(header.at, header.length, general->me, &general->neighbours, &fault);
     must_fit(status, fault, "sm_node_neighbours");

@@ -22,16 +22,13 @@ mod node_ends;
 mod node_fault;
 mod nodes;
 mod roots;
-mod spelling_fault;
 mod stages;
 
 pub use bundles::make_bundle;
 pub use frame_fault::FrameFault;
-pub use frame_reading::{FRAME_MARK, read_frame};
-pub use frame_writing::frame_bytes;
-pub use frames::{FrameFront, WireFrame};
+pub use frame_reading::{FRAME_MARK, read_frame, read_frame_head};
+pub use frames::{FrameFront, FrameHead, WireFrame};
 pub use node_ends::NodeEnd;
 pub use node_fault::NodeFault;
 pub use nodes::Node;
 pub use roots::root_of;
-pub use spelling_fault::SpellingFault;

@@ -59,15 +59,16 @@ pub enum StartFault {
     OtherRoot,
 }
 
-/// Why there is no bundle of a header's bytes, the generals that are held for faulty, and logs.
+/// Why there is no bundle of a header's bytes, the generals that are held for faulty, and logs. A pair is the least of
+/// the generals that aren't held for faulty and have no walk that is short enough.
 #[derive(Clone, Copy, Debug, PartialEq, Eq)]
 pub enum GatherFault {
     /// The bytes of the header have this fault.
     Header(BytesFault),
-    /// No walk joins two of the generals that aren't held for faulty.
-    NoWalk,
-    /// The shortest walk between two of the generals that aren't held for faulty is too long.
-    LongWalk,
+    /// No walk joins this pair.
+    NoWalk(SmPair),
+    /// The shortest walk between this pair is too long.
+    LongWalk(SmPair),
     /// The bundle breaks this rule.
     Bundle(BundleFault),
 }
@@ -79,6 +80,16 @@ pub(crate) fn bytes_number(fault: BytesFault) -> u32
     match fault {
         BytesFault::BadHeader(inner) => u32::from(inner.number()),
         BytesFault::LeftOver => 12,
+    }
+}
+
+/// Returns two generals as they are told.
+pub(crate) fn pair_of(a: GeneralNo, b: GeneralNo) -> SmPair
+    ensures { result ≡ numbers.pair_of a b }
+{
+    SmPair {
+        first: u32::from(a.get()),
+        second: u32::from(b.get()),
     }
 }
 
@@ -99,10 +110,7 @@ impl MakingFault {
     {
         match *self {
             MakingFault::Broken(_) => NO_PAIR,
-            MakingFault::EqualRoots { a, b } => SmPair {
-                first: u32::from(a.get()),
-                second: u32::from(b.get()),
-            },
+            MakingFault::EqualRoots { a, b } => pair_of(a, b),
         }
     }
 }
@@ -127,8 +135,8 @@ impl GatherFault {
     {
         match self {
             GatherFault::Header(inner) => bytes_number(inner),
-            GatherFault::NoWalk => 31,
-            GatherFault::LongWalk => 32,
+            GatherFault::NoWalk(_) => 31,
+            GatherFault::LongWalk(_) => 32,
             GatherFault::Bundle(BundleFault::Truncated) => 41,
             GatherFault::Bundle(BundleFault::UnknownMark) => 42,
             GatherFault::Bundle(BundleFault::BadHeader(inner)) => u32::from(inner.number()),
@@ -139,6 +147,18 @@ impl GatherFault {
             GatherFault::Bundle(BundleFault::LeftOver) => 48,
             GatherFault::Bundle(BundleFault::OutOfOrder) => 49,
             GatherFault::Bundle(BundleFault::LongLog) => 50,
+        }
+    }
+
+    /// Returns the pair that has no walk that is short enough; 0 and 0 for another fault.
+    pub(crate) fn pair(self) -> SmPair
+        ensures { result ≡ numbers.gather_pair self }
+    {
+        match self {
+            GatherFault::NoWalk(pair) => pair,
+            GatherFault::LongWalk(pair) => pair,
+            GatherFault::Header(_) => NO_PAIR,
+            GatherFault::Bundle(_) => NO_PAIR,
         }
     }
 }

@@ -17,11 +17,12 @@
 
 ghost use Rattle.std.specs.Prelude.{◌≡◌, ◌<◌, ◌≤◌, None};
 ghost use Rattle.sm_node.specs.Asking.{Tells};
-ghost use Rattle.sm_node.specs.Bundles.{HandsBundle, logs_in};
+ghost use Rattle.sm_node.specs.Bundles.{HandsBundle, logs_in, walks_by};
 ghost use Rattle.sm_node.specs.Driving.{Begins, Ends, Finishes, HandsLog, Hears, Sends, TellsOrder};
 ghost use Rattle.sm_node.specs.Handing.{IsUntouched};
 ghost use Rattle.sm_node.specs.Headers.{header_given, MakesHeader};
-ghost use Rattle.sm_node.specs.Plans.{TellsMost, TellsNeighbours, TellsNumbers, TellsRounds};
+ghost use Rattle.sm_node.specs.Heads.{TellsHead};
+ghost use Rattle.sm_node.specs.Plans.{TellsMost, TellsNeighbours, TellsNumbers, TellsRounds, TellsRunId};
 ghost use Rattle.sm_node.specs.Starting.{Starts, WritesRoot};
 ghost use Rattle.sm_node.specs.NodeReply.{IsTold};
 
@@ -30,6 +31,7 @@ mod bundles;
 mod faults;
 mod handing;
 mod headers;
+mod heads;
 mod held;
 mod loose;
 mod opaque;
@@ -41,6 +43,7 @@ use crate::asking::{Question, ask};
 use crate::bundles::{BundleWalks, SmLog, hand_bundle};
 use crate::faults::SmPair;
 use crate::headers::{SmNumbers, make_header};
+use crate::heads::{SmFrameHead, tell_head};
 use crate::opaque::SmNode;
 use crate::plans::{numbers_of, with_header};
 use crate::starting::{NUMBERS, start, write_root};
@@ -213,43 +216,33 @@ pub extern "C" fn sm_node_free(alloc: Global, node: &mut SmNode)
 /// Hands out the bytes of the bundle of a run. Its parts are the header's bytes, the set of the generals that are held
 /// for faulty (bit g for general g), walks between the others, and the collected logs. The logs stand one after another
 /// in `bytes`, in ascending order of their generals. It is misuse if the set has a general above 15, or if `bytes` are
-/// not exactly these logs.
+/// not exactly these logs. If two generals that aren't held for faulty have no short walk, the least such pair is told;
+/// but if `parted` is not 0, the bundle then has no walks. The audit finds that.
 #[unsafe(no_mangle)]
 pub extern "C" fn sm_node_bundle(
     alloc: Global,
     header: &[u8],
     faulty: u32,
+    parted: u32,
     logs: &[SmLog],
     bytes: &[u8],
     room: &mut [u8],
     count: &mut usize,
     fault: &mut u32,
+    apart: &mut SmPair,
 ) -> u32
-    ensures { IsTold (HandsBundle BundleWalks.Best header.now faulty (logs_in logs.now bytes.now)
-        room.old room.new count.new fault.new) result }
+    ensures { IsTold (HandsBundle (walks_by parted) header.now faulty (logs_in logs.now bytes.now)
+        room.old room.new count.new fault.new apart.new) result }
 {
-    let kind = BundleWalks::Best;
-    hand_bundle(alloc, kind, header, faulty, logs, bytes, room, count, fault).status()
-}
-
-/// Hands out the bytes of the bundle of a run, as `sm_node_bundle` does, but if two generals that aren't held for faulty have
-/// no short walk, the bundle has no walks. The audit then finds that.
-#[unsafe(no_mangle)]
-pub extern "C" fn sm_node_bundle_parted(
-    alloc: Global,
-    header: &[u8],
-    faulty: u32,
-    logs: &[SmLog],
-    bytes: &[u8],
-    room: &mut [u8],
-    count: &mut usize,
-    fault: &mut u32,
-) -> u32
-    ensures { IsTold (HandsBundle BundleWalks.BestOrNone header.now faulty (logs_in logs.now bytes.now)
-        room.old room.new count.new fault.new) result }
-{
-    let kind = BundleWalks::BestOrNone;
-    hand_bundle(alloc, kind, header, faulty, logs, bytes, room, count, fault).status()
+    let wanted = if parted == 0 {
+        BundleWalks::Best
+    } else {
+        BundleWalks::BestOrNone
+    };
+    hand_bundle(
+        alloc, wanted, header, faulty, logs, bytes, room, count, fault, apart,
+    )
+    .status()
 }
 
 /// Returns the number of the version of this library: 1000000 times the first number, 1000 times the second, and the
@@ -288,6 +281,28 @@ pub extern "C" fn sm_node_rounds(
     *rounds = 0;
     let mut tell = |found: &Header| *rounds = u32::from(found.net().rounds());
     with_header(alloc, header, fault, &mut tell).status()
+}
+
+/// Tells the run id of the header that the bytes are.
+#[unsafe(no_mangle)]
+pub extern "C" fn sm_node_run_id(
+    alloc: Global,
+    header: &[u8],
+    run_id: &mut [u8; 32],
+    fault: &mut u32,
+) -> u32
+    ensures { IsTold (TellsRunId header.now run_id.old run_id.new fault.new) result }
+{
+    let mut tell = |found: &Header| *run_id = *found.run_id();
+    with_header(alloc, header, fault, &mut tell).status()
+}
+
+/// Tells what the head of a frame says: its run, its round, its sender, its receiver and the number of its parcels.
+#[unsafe(no_mangle)]
+pub extern "C" fn sm_node_frame_head(frame: &[u8], head: &mut SmFrameHead, fault: &mut u32) -> u32
+    ensures { IsTold (TellsHead frame.now head.old head.new fault.new) result }
+{
+    tell_head(frame, head, fault).status()
 }
 
 /// Tells the most bytes of a frame of a node that follows the algorithm, in a run of the header that the bytes are.

@@ -124,6 +124,19 @@ class EqualRoots(InputFault):
         return EqualRoots, self.generals
 
 
+class NoWalk(InputFault):
+    """Two nodes (generals) that are not held for faulty have no walk (U1), or none of at most d edges (U2). `generals` are
+    the two, the lesser one first. No lesser pair has.
+    """
+
+    def __init__(self, number: NodeFault, first: int, second: int) -> None:
+        super().__init__(f"fault {number.name}", number)
+        self.generals: Tuple[int, int] = (first, second)
+
+    def __reduce__(self) -> Tuple[type, Tuple[Optional[NodeFault], int, int]]:
+        return NoWalk, (self.number, *self.generals)
+
+
 class OtherRun(InputFault):
     """The input is of another run than the one that is expected. `line` is `fault R1`."""
 

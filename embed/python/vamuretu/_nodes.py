@@ -6,12 +6,14 @@ import ctypes
 import os
 import threading
 import warnings
+from dataclasses import dataclass
 from types import TracebackType
 from typing import Iterable, List, NoReturn, Optional, Tuple, Type
 
 from ._faults import Misuse
 from ._headers import Header, made, must
 from ._libraries import NODES, Bytes, LogOf, as_bytes, exactly, library, number, written
+from ._libraries import FrameHead as Told
 
 # In place of an order: the node has none.
 NO_ORDER = 255
@@ -161,6 +163,27 @@ class Node:
         raise TypeError("a node is never copied")
 
 
+@dataclass(frozen=True)
+class FrameHead:
+    """What the head of a frame says: its run, its round, its sender and its receiver, and how many parcels follow. Nobody
+    signs a head. A transport goes by it to keep the frames of later rounds.
+    """
+
+    run_id: str
+    round: int
+    sender: int
+    receiver: int
+    parcel_count: int
+
+
+def frame_head(frame: Bytes) -> FrameHead:
+    """The head of a frame. InputFault has F3 or F4 if no head begins the bytes."""
+    data, head, told = as_bytes(frame), Told(), ctypes.c_uint32(0)
+    function = library(NODES).sm_node_frame_head
+    must(function(data, len(data), ctypes.byref(head), ctypes.byref(told)), "sm_node_frame_head", told)
+    return FrameHead(bytes(head.run_id).hex(), head.round, head.sender, head.receiver, head.parcel_count)
+
+
 def _set_of(generals: Iterable[int]) -> int:
     """A set of nodes as the library has it: bit g for general g."""
     members = {number(general, GENERALS, "general") for general in generals}
@@ -174,16 +197,16 @@ def bundle(
     collected.
 
     A log comes with the node that it is said to be of, ascending, and several may be of one node. The walks between
-    the others are found. InputFault has U1, U2, B4, B7, B9 or LONG_LOG. audit() says what the logs are.
+    the others are found. InputFault has B4, B7, B9 or LONG_LOG. It is NoWalk, ahead of these, if two of the others have no
+    walk of at most d edges. audit() says what the logs are.
 
-    With `parted`, there is no U1 and no U2: a bundle has no walks if two of the others have none of at most d edges.
-    audit() finds that.
+    With `parted`, there is no NoWalk: the bundle then has no walks. audit() finds that.
     """
     given: List[Tuple[int, bytes]] = [(number(general, GENERALS, "general"), as_bytes(log)) for general, log in logs]
     of = (LogOf * max(len(given), 1))(*((general, len(log)) for general, log in given))
     size = sum(len(log) for _, log in given)
     # A copy, so that no log is the object of the header's bytes.
     whole = ctypes.create_string_buffer(b"".join(log for _, log in given), max(size, 1))
-    words = [header.data, len(header.data), _set_of(faulty), of, len(given), whole, size]
+    words = [header.data, len(header.data), _set_of(faulty), int(parted), of, len(given), whole, size]
     room = len(header.data) + size + 8 + MOST_WALKS * WALK_BYTES + LOG_FRONT * len(given)
-    return made("sm_node_bundle_parted" if parted else "sm_node_bundle", words, room)
+    return made("sm_node_bundle", words, room)

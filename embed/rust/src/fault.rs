@@ -15,6 +15,9 @@ pub enum Fault {
     Node(NodeFault),
     /// Two nodes of a header have the same root, the lesser one first. No lesser pair has.
     EqualRoots(u32, u32),
+    /// Two nodes that are not held for faulty have no walk ([`NodeFault::U1`]), or none of at most d edges
+    /// ([`NodeFault::U2`]), the lesser one first. No lesser pair has.
+    NoWalk(NodeFault, u32, u32),
     /// The call is not allowed here, or a number is out of its range: the calling program has a mistake. Of
     /// [`accuse_known`](crate::accuse_known) the general may also be none of the run's, and of
     /// [`Node::hear`](crate::Node::hear) the frame may have come after the node ended.
@@ -55,9 +58,9 @@ pub enum NodeFault {
     F6,
     F7,
     F8,
-    /// Two nodes that are not held for faulty have no walk.
+    /// Two nodes that are not held for faulty have no walk: [`Fault::NoWalk`] names them.
     U1,
-    /// Two nodes that are not held for faulty have no walk of at most d edges.
+    /// Two nodes that are not held for faulty have no walk of at most d edges: [`Fault::NoWalk`] names them.
     U2,
     B1,
     B2,
@@ -113,6 +116,7 @@ impl fmt::Display for Fault {
             Fault::OtherRun => write!(to, "fault R1"),
             Fault::Node(fault) => write!(to, "{fault}"),
             Fault::EqualRoots(first, second) => write!(to, "fault G2 generals {first} {second}"),
+            Fault::NoWalk(fault, first, second) => write!(to, "{fault}: {first} and {second}"),
             Fault::Misuse => write!(to, "the call is not allowed here"),
             Fault::Memory => write!(to, "memory was refused"),
         }
@@ -140,10 +144,12 @@ mod tests {
     #[test]
     fn numbers_are_those_of_the_header() {
         let header = include_str!("../../sm_node.h");
-        for (name, fault) in
-            [("SM_LEFT_OVER = 12", LeftOver), ("SM_NO_GENERAL = 13", NoGeneral), ("SM_OTHER_ROOT = 14", OtherRoot),
-             ("SM_EQUAL_ROOTS = 15", EqualRoots)]
-        {
+        for (name, fault) in [
+            ("SM_LEFT_OVER = 12", LeftOver),
+            ("SM_NO_GENERAL = 13", NoGeneral),
+            ("SM_OTHER_ROOT = 14", OtherRoot),
+            ("SM_EQUAL_ROOTS = 15", EqualRoots),
+        ] {
             let number = name.rsplit(' ').next().expect("a number").parse().expect("a number");
             assert!(header.contains(name) && NodeFault::of_number(number) == Some(fault));
         }

@@ -1,8 +1,9 @@
 //! One node (general) of a run, driven over the caller's transport, and the bundle of the logs that were collected.
 
 use crate::header::{Header, Seed};
-use crate::raw::{self, written, SmLog, SmNode};
-use crate::Fault;
+use crate::fault::NodeFault;
+use crate::raw::{self, written, SmFrameHead, SmLog, SmNode, SmPair};
+use crate::{Fault, RunId};
 
 /// Most frames without a chain, and small logs, fit into this room.
 const FIRST_ROOM: usize = 1 << 12;
@@ -169,6 +170,33 @@ impl Drop for Node {
     }
 }
 
+/// What the head of a frame says. Nobody signs a head. A transport goes by it to keep the frames of later rounds.
+#[derive(Debug, Clone, Copy, PartialEq, Eq)]
+pub struct FrameHead {
+    /// The id of the frame's run.
+    pub run_id: RunId,
+    /// The round.
+    pub round: u32,
+    /// The node (general) that sends the frame.
+    pub sender: u32,
+    /// The node that receives it.
+    pub receiver: u32,
+    /// How many parcels follow.
+    pub parcel_count: u32,
+}
+
+impl FrameHead {
+    /// The head of a frame. Faults are F3 and F4, if no head begins the bytes.
+    pub fn read(frame: &[u8]) -> Result<FrameHead, Fault> {
+        let mut head = SmFrameHead { run_id: [0; 32], round: 0, sender: 0, receiver: 0, parcel_count: 0 };
+        let mut fault = 0;
+        // SAFETY: the frame, the head and the fault do not overlap, and nobody else has the last two.
+        let status = unsafe { raw::sm_node_frame_head(frame.as_ptr(), frame.len(), &mut head, &mut fault) };
+        let SmFrameHead { run_id, round, sender, receiver, parcel_count } = head;
+        Fault::of_node(status, fault).map(|()| FrameHead { run_id, round, sender, receiver, parcel_count })
+    }
+}
+
 /// The bundle of a run, as its bytes.
 #[derive(Debug, Clone, PartialEq, Eq)]
 pub struct Bundle(Vec<u8>);
@@ -176,35 +204,41 @@ pub struct Bundle(Vec<u8>);
 impl Bundle {
     /// The bundle of a header, the nodes (generals) that are held for faulty, and the logs that were collected. A log
     /// comes with the node that it is said to be of, ascending, and several may be of one node. The walks between the
-    /// others are found. Faults are U1, U2, B4, B7, B9, or a log that is too long. [`Fault::Misuse`] for a general
-    /// above 15.
+    /// others are found: [`Fault::NoWalk`] if there is none of at most d edges between two of them. Other faults are B4,
+    /// B7, B9, or a log that is too long. [`Fault::Misuse`] for a general above 15.
     pub fn new(header: &Header, faulty: &[u32], logs: &[(u32, &[u8])]) -> Result<Bundle, Fault> {
-        Bundle::by(raw::sm_node_bundle, header, faulty, logs)
+        Bundle::by(0, header, faulty, logs)
     }
 
-    /// The same bundle, but there is no U1 and no U2: it has no walks if two of the others have none of at most d edges.
-    /// The audit finds that.
+    /// The same bundle, but there is no [`Fault::NoWalk`]: the bundle then has no walks. The audit finds that.
     pub fn parted(header: &Header, faulty: &[u32], logs: &[(u32, &[u8])]) -> Result<Bundle, Fault> {
-        Bundle::by(raw::sm_node_bundle_parted, header, faulty, logs)
+        Bundle::by(1, header, faulty, logs)
     }
 
-    /// The bundle that a call makes.
-    fn by(call: raw::Gathering, header: &Header, faulty: &[u32], logs: &[(u32, &[u8])]) -> Result<Bundle, Fault> {
+    /// The bundle, which may be one of a network that is parted if the number is not 0.
+    fn by(parted: u32, header: &Header, faulty: &[u32], logs: &[(u32, &[u8])]) -> Result<Bundle, Fault> {
         let set = faulty
             .iter()
             .try_fold(0, |set, &general| if general < 16 { Ok(set | 1 << general) } else { Err(Fault::Misuse) })?;
         let of: Vec<SmLog> = logs.iter().map(|&(general, log)| SmLog { general, bytes: log.len() }).collect();
         let whole: Vec<u8> = logs.iter().flat_map(|&(_, log)| log).copied().collect();
-        let (bytes, mut fault) = (header.as_bytes(), 0);
+        let (bytes, mut fault, mut apart) = (header.as_bytes(), 0, SmPair { first: 0, second: 0 });
         let room = bytes.len() + whole.len() + 8 + MOST_WALKS * WALK_BYTES + LOG_FRONT * logs.len();
         // SAFETY: the pointers are of pieces of memory of these lengths that do not overlap, and nobody else has the
-        // room, the count and the fault.
+        // room, the count, the fault and the pair.
         let (status, made) = written(room, |room, room_bytes, count| unsafe {
-            let (logs, all) = (of.as_ptr(), whole.as_ptr());
-            let at = bytes.as_ptr();
-            call(at, bytes.len(), set, logs, of.len(), all, whole.len(), room, room_bytes, count, &mut fault)
+            let (at, logs, all, told) = (bytes.as_ptr(), of.as_ptr(), whole.as_ptr(), &mut fault);
+            let (log_count, byte_count) = (of.len(), whole.len());
+            raw::sm_node_bundle(
+                at, bytes.len(), set, parted, logs, log_count, all, byte_count, room, room_bytes, count, told, &mut apart,
+            )
         });
-        Fault::of_node(status, fault).map(|()| Bundle(made))
+        match Fault::of_node(status, fault) {
+            Err(Fault::Node(walk @ (NodeFault::U1 | NodeFault::U2))) => {
+                Err(Fault::NoWalk(walk, apart.first, apart.second))
+            }
+            told => told.map(|()| Bundle(made)),
+        }
     }
 
     /// The bytes of the bundle, which [`audit`](crate::audit) judges.
