@@ -1,10 +1,10 @@
 pub mod Cuts
 pub mod Distances
+pub mod FirstParted
 pub mod Graphs
 pub mod Joined
 pub mod MostNeighbours
 pub mod Pairs
-pub mod Parting
 pub mod Sets
 pub mod Sharing
 pub mod Short

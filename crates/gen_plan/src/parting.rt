@@ -12,5 +12,6 @@ use gen_types::{GeneralNo, GeneralSet};
 pub fn parted_pair(net: &Net, faulty: &GeneralSet) -> Option<(GeneralNo, GeneralNo)>
     ensures { result ≡ parted_pair net.now faulty.now }
 {
-    first_apart(&Graph::of(net), faulty, net.diameter())
+    let graph = Graph::of(net);
+    first_apart(&graph, faulty, net.diameter())
 }

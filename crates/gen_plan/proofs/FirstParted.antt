@@ -58,13 +58,13 @@ out_decides faulty g = Decides-not (is_among faulty g) (among_in faulty g, in_am
 
 -- a step from a to c, and a walk on from there
 abbrev pub Onward : Network → List ℕ → ℕ → ℕ → ℕ → ℕ → Type 0
-Onward net faulty edges a b c = AreNeighbours net a c × (Contains faulty c → ⊥) × IsWalk net faulty edges c b
+Onward net faulty edges a b c = AreNeighbours net a c × ((Contains faulty c → ⊥) × IsWalk net faulty edges c b)
 
 onward_walk : (net : Network) (faulty : List ℕ) (edges a b : ℕ) → (c : ℕ) × (c < net.generals) × Onward net faulty edges a b c → IsWalk net faulty (suc edges) a b
-onward_walk net faulty edges a b (c, inside, near, out, walk) = (c, near, (inside, out), walk)
+onward_walk net faulty edges a b (c, inside, (near, (out, walk))) = (c, near, (inside, out), walk)
 
 walk_onward : (net : Network) (faulty : List ℕ) (edges a b : ℕ) → IsWalk net faulty (suc edges) a b → (c : ℕ) × (c < net.generals) × Onward net faulty edges a b c
-walk_onward net faulty edges a b (c, near, loyal, walk) = (c, loyal.0, near, loyal.1, walk)
+walk_onward net faulty edges a b (c, near, loyal, walk) = (c, loyal.0, (near, (loyal.1, walk)))
 
 abbrev pub onward : Network → List ℕ → ℕ → ℕ → ℕ → ℕ → Bool
 onward net faulty edges a b c = is_near net a c && (not (is_among faulty c) && leads net faulty edges c b)
@@ -89,7 +89,7 @@ joined_decides net faulty most a b =
 
 -- a stands before b, neither is faulty, and they are not joined
 abbrev pub Parted : Network → List ℕ → ℕ → ℕ → Type 0
-Parted net faulty a b = (a < b) × (Contains faulty a → ⊥) × (Contains faulty b → ⊥) × (IsJoinedBy net faulty net.diameter a b → ⊥)
+Parted net faulty a b = (a < b) × ((Contains faulty a → ⊥) × ((Contains faulty b → ⊥) × (IsJoinedBy net faulty net.diameter a b → ⊥)))
 
 parted_decides : (net : Network) (faulty : List ℕ) (a b : ℕ) → Decides (is_parted net faulty a b) (Parted net faulty a b)
 unfolding is_parted
@@ -130,12 +130,12 @@ module _ (net : Network) (faulty : List ℕ) where
   least_is_first a b is =
       let n = net.generals in
       let before : (y : ℕ) → y < b → Parted net faulty a y → ⊥ =
-      λ y l p. p.3 (is.least a y p.0 is.lesser (omega (arith, l, is.greater.0), p.2) (inr (refl, l))) in
+      λ y l p. p.1.1.1 (is.least a y p.0 is.lesser (omega (arith, l, is.greater.0), p.1.1.0) (inr (refl, l))) in
       let row : first_pair (parted_from net faulty a) ≡ Some (a, b) =
       first_at (parted_of net faulty a) n b (a, b) is.greater.0 (none_from net faulty a b before)
-      (first_of_one net faulty a b (is.ordered, is.lesser.1, is.greater.1, is.apart)) in
+      (first_of_one net faulty a b (is.ordered, (is.lesser.1, (is.greater.1, is.apart)))) in
       let above : (x : ℕ) → x < a → parted_from net faulty x ≡ [] =
-      λ x l. none_from net faulty x n (λ y m p. p.3 (is.least x y p.0 (omega (arith, l, is.lesser.0), p.1) (m, p.2) (inl l))) in
+      λ x l. none_from net faulty x n (λ y m p. p.1.1.1 (is.least x y p.0 (omega (arith, l, is.lesser.0), p.1.0) (m, p.1.1.0) (inl l))) in
       sym (first_at (parted_from net faulty) n a (a, b) is.lesser.0 (none_below (parted_from net faulty) a above) row)
 
   -- where all are joined there is none
@@ -144,7 +144,7 @@ module _ (net : Network) (faulty : List ℕ) where
   joined_is_none all =
       let n = net.generals in
       let rows : (x : ℕ) → x < n → parted_from net faulty x ≡ [] =
-      λ x l. none_from net faulty x n (λ y m p. p.3 (all x y (l, p.1) (m, p.2))) in
+      λ x l. none_from net faulty x n (λ y m p. p.1.1.1 (all x y (l, p.1.0) (m, p.1.1.0))) in
       sym (ap first_pair (none_below (parted_from net faulty) n rows))
 
   pub is_parted_pair : (found : Option (ℕ × ℕ)) → IfSome found (λ pair. IsLeastApart net faulty net.diameter pair.0 pair.1)
