@@ -10,7 +10,7 @@ pub mod Drawn
 pub mod Held
 pub mod JudgedRuns
 pub mod Known
-pub mod Planned
 pub mod Reading
 pub mod RunsOf
 pub mod Shown
+pub mod Unwritten

@@ -6,11 +6,12 @@ use Rattle.gen_campaign.specs.Campaign.{CampaignBundle}
 use Rattle.gen_campaign.specs.CampaignReading.{whole_campaign}
 use Rattle.gen_jobs.specs.Accepted.{IsSound, IsSoundIf}
 use Rattle.gen_json.specs.OriginData.{Origin}
-use Rattle.gen_jobs.specs.Asking.{IsAuditedFrom}
-use Rattle.gen_jobs.specs.Audit.{IsAudited}
+use Rattle.gen_jobs.specs.Asking.{IsAuditedBy, IsAuditedFrom}
 use Rattle.gen_jobs.specs.Campaigning.{IsCampaignRun}
+use Rattle.gen_jobs.specs.Origins.{nothing_asked}
 use Rattle.gen_asked.specs.declared.asked.Asked.{Asked}
 use Rattle.gen_asked.specs.declared.faulty.Faulty.TheVariants.{Listed}
+use Rattle.gen_asked.specs.declared.forms.Form.TheVariants.{Text}
 
 -- the bundles of the runs of a campaign, as a `CampaignBundle`
 abbrev pub together : List Bundle → CampaignBundle
@@ -27,7 +28,8 @@ CampaignsAreRead =
 abbrev pub CampaignsAreAccepted : Type 0
 CampaignsAreAccepted =
     (input text report : List ℕ) (said negative : Bool) (run : IsCampaignRun input text said)
-    → AreBelow 256 text → All IsSound run.runs → IsAudited text report negative → negative ≡ false
+    → AreBelow 256 text → All IsSound run.runs
+    → IsAuditedBy nothing_asked Text false None text report negative → negative ≡ false
 
 -- the same of the job audit in any form, wherever its answer is said to come from, of any runs that are asked
 -- for, and asked strictly or not, if no other list of faulty generals is asked for

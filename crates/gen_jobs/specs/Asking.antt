@@ -29,11 +29,9 @@ use Rattle.gen_jobs.specs.Judging.{JudgesRun}
 use Rattle.gen_jobs.specs.Origins.{nothing_asked, origin_in}
 use Rattle.gen_asked.specs.declared.asked.Asked.{Asked}
 use Rattle.gen_asked.specs.declared.asked_runs.AskedRuns.{AskedRuns}
-use Rattle.gen_asked.specs.declared.faulty.Faulty.TheVariants.{Listed}
 use Rattle.gen_jobs.specs.declared.ends.JobFault.{JobFault}
 use Rattle.gen_jobs.specs.declared.ends.JobFault.TheVariants as faults
 use Rattle.gen_asked.specs.declared.forms.Form.{Form}
-use Rattle.gen_asked.specs.declared.forms.Form.TheVariants.{Text, Json}
 
 -- memory was refused, or the runs with these ids are not the ones that are asked for
 abbrev pub OthersAsked : AskedRuns → List (List ℕ) → JobFault → Type 0
@@ -137,18 +135,8 @@ AuditsAs origin strict shown text negative =
     Counts origin strict (have_few shown.bundles) (shared_roots shown.bundles)
     (AuditsShown origin shown.alone shown.bundles) text negative
 
--- the text is that of the judgement on the bundle or campaign in the input, of the runs that are asked for
-abbrev pub IsAuditedAs : AskedRuns → Bool → List ℕ → List ℕ → Bool → Type 0
-IsAuditedAs asked strict input text negative = Shows asked (AuditsAs None strict) input text negative
-
--- the same in a form, of an input without a name
-abbrev pub IsAuditedIn : Form → AskedRuns → Bool → List ℕ → List ℕ → Bool → Type 0
-IsAuditedIn form asked strict input text negative =
-    Shows asked (AuditsAs (origin_in form None (record { runs = asked; faulty = Listed }) input) strict) input
-    text negative
-
--- the same with the generals that are asked for held for faulty: as text, or as JSON with where the answer
--- comes from
+-- The text is that of the judgement on the bundle or campaign in the input, of the runs that are asked for,
+-- with the generals that are asked for held for faulty: as text, or as JSON with where the answer comes from.
 abbrev pub IsAuditedFrom : Asked → Option Origin → Bool → List ℕ → List ℕ → Bool → Type 0
 IsAuditedFrom asked origin strict input text negative =
     ShowsHeld asked (AuditsAs origin strict) input text negative
@@ -162,11 +150,8 @@ IsAuditedBy asked form strict name input text negative =
 abbrev pub DrawsAll : CampaignBundle → List ℕ → Bool → Type 0
 DrawsAll shown text negative = DrawsForm shown.alone shown.bundles text × (negative ≡ false)
 
--- the text is the picture of the bundle or campaign in the input, of the runs that are asked for
-abbrev pub IsDrawnOf : AskedRuns → List ℕ → List ℕ → Bool → Type 0
-IsDrawnOf asked input text negative = Shows asked DrawsAll input text negative
-
--- the same with the generals that are asked for held for faulty
+-- the text is the picture of the bundle or campaign in the input, of the runs that are asked for, with the
+-- generals that are asked for held for faulty
 abbrev pub IsDrawnBy : Asked → List ℕ → List ℕ → Bool → Type 0
 IsDrawnBy asked input text negative = ShowsHeld asked DrawsAll input text negative
 
@@ -187,9 +172,6 @@ pub record IsCheckedIn (form : Form) (asked : AskedRuns) (input text : List ℕ)
   pub spelled : Spells IsWhole whole_spelling input read
   pub run : AreAsked asked (run_id_of read.header ∷ [])
   pub tells : Tells form read text negative
-
-abbrev pub IsCheckedOf : AskedRuns → List ℕ → List ℕ → Bool → Type 0
-IsCheckedOf = IsCheckedIn Text
 
 -- The input spells evidence, and not of the run that is asked for.
 pub record IsOfOther (asked : AskedRuns) (input : List ℕ) : Type 0 where

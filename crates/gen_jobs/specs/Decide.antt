@@ -44,9 +44,6 @@ pub record IsDecidedIn (form : Form) (input text : List ℕ) (negative : Bool) :
   pub text_is : text ≡ told_text form told
   pub positive : negative ≡ false
 
-abbrev pub IsDecided : List ℕ → List ℕ → Bool → Type 0
-IsDecided = IsDecidedIn Text
-
 -- the first fault of an input that spells no scenario; or memory was refused
 abbrev pub IsDecideFault : List ℕ → JobFault → Type 0
 IsDecideFault input faults.Memory = Unit {0}

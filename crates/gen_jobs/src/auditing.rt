@@ -93,7 +93,7 @@ pub(crate) fn output_by(
 /// `Campaign` with `FaultyRange`, as the fault of the first bundle whose header lacks a general that is asked for.
 /// `Memory` if memory is refused; `Thread` if a worker's thread can't be started, so never for one worker.
 #[tactic(auto, using(crate::proofs::AskedFaults::held_faults))]
-pub fn audit_as_asked<T: Threads + Wait + Sync>(
+pub(crate) fn audit<T: Threads + Wait + Sync>(
     rt: &T,
     alloc: Global,
     workers: WorkerCount,
@@ -149,7 +149,7 @@ pub fn audit_engine<T: Threads + Wait + Sync, R: Read, W: Write>(
     match read_all(alloc, reader) {
         Ok(input) => deliver(
             writer,
-            audit_as_asked(rt, alloc, workers, asked, form, strict, name, input),
+            audit(rt, alloc, workers, asked, form, strict, name, input),
         ),
         Err(fault) => JobEnd::Failed(fault),
     }

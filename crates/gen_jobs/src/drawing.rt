@@ -75,15 +75,15 @@ pub(crate) fn picture_by(
 
 /// Returns the picture of the bundle that the input spells and of the judgement on it, as an SVG text. For a campaign it
 /// is that of its runs, one below the other. The runs must be the ones that are asked for. If generals are asked for,
-/// these are held for faulty in place of the ones that it lists, as for `audit_as_asked`. The output never says no,
+/// these are held for faulty in place of the ones that it lists, as for `audit`. The output never says no,
 /// whatever the verdict is, and it does not depend on the number of workers. The input is taken, and its bytes are not
 /// copied unless generals are asked for.
 ///
 /// # Errors
 ///
-/// Those of `audit_as_asked`.
+/// Those of `audit`.
 #[tactic(auto, using(crate::proofs::AskedFaults::held_faults))]
-pub fn draw_as_asked<T: Threads + Wait + Sync>(
+pub(crate) fn draw<T: Threads + Wait + Sync>(
     rt: &T,
     alloc: Global,
     workers: WorkerCount,
@@ -125,7 +125,7 @@ pub fn draw_engine<T: Threads + Wait + Sync, R: Read, W: Write>(
     ensures late { KeepsUntilWhole (W.contents writer.old) (W.contents writer.new) result }
 {
     match read_all(alloc, reader) {
-        Ok(input) => deliver(writer, draw_as_asked(rt, alloc, workers, asked, input)),
+        Ok(input) => deliver(writer, draw(rt, alloc, workers, asked, input)),
         Err(fault) => JobEnd::Failed(fault),
     }
 }

@@ -8,16 +8,11 @@ ghost use Rattle.gen_asked.specs.Ranges.{IsInRange};
 use crate::accusing::accuse_engine;
 use crate::auditing::audit_engine;
 use crate::campaigning::campaign_engine;
-use crate::checking::evidence_engine;
-use crate::deciding::decide_engine;
 use crate::drawing::draw_engine;
 use crate::ends::JobEnd;
+use crate::in_place::engine_in_place;
 use crate::judging::judge_engine;
-use crate::planning::plan_engine;
-use crate::preparing::{header_engine, root_engine};
 use crate::running::run_engine;
-use crate::showing::show_engine;
-use crate::telling::tell_engine;
 use gen_asked::Job;
 use gen_audit::WorkerCount;
 use std::alloc::Global;
@@ -49,7 +44,6 @@ pub fn do_job<T: Threads + Wait + Sync, R: Read, W: Write>(
     ensures late { KeepsUntilWhole (W.contents writer.old) (W.contents writer.new) result }
 {
     match job {
-        Job::Decide { form } => decide_engine(alloc, form, reader, writer),
         Job::Run { capacity } => run_engine(rt, alloc, capacity, reader, writer),
         Job::Judge {
             capacity,
@@ -80,11 +74,6 @@ pub fn do_job<T: Threads + Wait + Sync, R: Read, W: Write>(
                 writer,
             )
         }
-        Job::Evidence { asked, form } => evidence_engine(alloc, form, asked, reader, writer),
-        Job::Show { asked, form } => show_engine(alloc, form, asked, reader, writer),
-        Job::Root { height } => root_engine(alloc, height, reader, writer),
-        Job::Header { version } => header_engine(alloc, version, reader, writer),
-        Job::Plan { version } => plan_engine(alloc, version, reader, writer),
-        Job::Tell { what } => tell_engine(alloc, what, reader, writer),
+        _ => engine_in_place(alloc, job, name, reader, writer),
     }
 }

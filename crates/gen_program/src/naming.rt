@@ -2,7 +2,7 @@
 ghost use Rattle.gen_asked.specs.Ranges.{IsInRange};
 
 use gen_asked::Job;
-use gen_jobs::{JobEnd, JobFault, Output, do_job, name_file, plan, write_output};
+use gen_jobs::{JobEnd, JobFault, Output, answer_in_place, deliver, do_job, name_file};
 use gen_net::Version;
 use std::alloc::{AllocError, Global};
 use std::io::{Read, Write};
@@ -14,7 +14,10 @@ const WHY: usize = 3;
 
 /// Appends a line that says why the plan of a header fails, if it does.
 fn push_plan(alloc: Global, lines: &mut String, header: &[u8]) -> Result<(), AllocError> {
-    let Ok(told) = plan(alloc, Version::One, header) else {
+    let plan = Job::Plan {
+        version: Version::One,
+    };
+    let Ok(told) = answer_in_place(alloc, plan, None, header) else {
         return Err(AllocError);
     };
     if let (true, Ok(text)) = (told.negative, str::from_utf8(&told.text)) {
@@ -79,7 +82,7 @@ pub(crate) fn do_and_tell<R: AllocGlobal + Eprint + Threads + Wait + Sync, S: Re
         text,
         negative: false,
     };
-    let end = write_output(writer, &output);
+    let end = deliver(writer, Ok(output));
     if end == JobEnd::Done && !lines.is_empty() {
         let _ = eprint!(rt; "{lines}");
     }

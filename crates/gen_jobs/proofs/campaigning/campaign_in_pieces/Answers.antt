@@ -2,7 +2,7 @@ use Rattle.std.proofs.Common.{◌∙◌, List, refl, subst, arith}
 use Rattle.gen_scenario.specs.Scenario.{Scenario}
 use Rattle.gen_jobs.specs.Campaigning.{AreTextsOf}
 use Rattle.gen_jobs.proofs.RunsOf.{few_texts, makes_texts}
-use Rattle.gen_jobs.proofs.campaigning.campaign.Goals as goal
+use Rattle.gen_jobs.proofs.campaigning.campaign_in_pieces.Goals as goal
 
 pub new-requires : goal.new-requires
 new-requires g c =

@@ -14,7 +14,7 @@ use Rattle.gen_jobs.specs.Asking.{counted_text, counts_as_no, has_few}
 use Rattle.gen_jobs.specs.Audit.{judgement_text}
 use Rattle.gen_jobs.specs.Origins.{nothing_asked, origin_in}
 use Rattle.gen_jobs.proofs.JudgedRuns.{judges, scripted_below, walks_listed}
-use Rattle.gen_jobs.proofs.judging.judge_as_asked.Goals as goal
+use Rattle.gen_jobs.proofs.judging.judge.Goals as goal
 
 pub run_and_audit_bundle-requires-clause-faulty : goal.run_and_audit_bundle-requires-clause-faulty
 run_and_audit_bundle-requires-clause-faulty g c = λ κs _.
