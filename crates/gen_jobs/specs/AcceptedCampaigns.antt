@@ -1,5 +1,5 @@
 -- What the job campaign writes is read by the job audit, which accepts it.
-use Rattle.std.specs.Prelude.{ℕ, ◌≡◌, Bool, false, List, All, Option, Ok}
+use Rattle.std.specs.Prelude.{ℕ, ◌≡◌, Bool, false, List, All, Option, None, Ok}
 use Rattle.gen_log.specs.Fields.{AreBelow}
 use Rattle.gen_audit.specs.Bundle.{Bundle}
 use Rattle.gen_campaign.specs.Campaign.{CampaignBundle}
