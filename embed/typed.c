@@ -1,7 +1,8 @@
 /* Answers in structs: sm_tool's answer to the bytes on standard input, of which each line is made of what sm_read.h
    read.
 
-       typed audit|decide
+       typed audit [--strict]
+       typed decide
 
    The exit status is that of sm_tool, and so is the line of what failed. It is 6 if a text was not read. */
 #include "sm_embed.h"
@@ -137,9 +138,10 @@ static int tell(uint32_t status, sm_answer *answer, int is_audit) {
 }
 
 int main(int words, char **word) {
-    int is_audit = words == 2 && strcmp(word[1], "audit") == 0;
+    int is_strict = words == 3 && strcmp(word[2], "--strict") == 0;
+    int is_audit = (words == 2 || is_strict) && strcmp(word[1], "audit") == 0;
     if (!is_audit && (words != 2 || strcmp(word[1], "decide") != 0))
-        return failed(SM_MISUSE, "usage: typed audit|decide");
+        return failed(SM_MISUSE, "usage: typed audit [--strict] or typed decide");
     struct bytes input = read_all();
     if (ferror(stdin)) {
         free(input.at);
@@ -147,7 +149,7 @@ int main(int words, char **word) {
     }
     if (input.at == NULL) return failed(SM_MEMORY, "memory");
     sm_answer answer = {0};
-    uint32_t status = is_audit ? sm_audit_of(NULL, 0, 0, input.at, input.length, &answer)
+    uint32_t status = is_audit ? sm_audit_of(NULL, 0, (uint32_t)is_strict, input.at, input.length, &answer)
                                : sm_decide_as(SM_TEXT, input.at, input.length, &answer);
     int told = tell(status, &answer, is_audit);
     sm_answer_free(&answer);

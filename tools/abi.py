@@ -208,7 +208,7 @@ def wrong_with_page(script, functions):
     wrong += [f"embed/page/judging.js: {name} is called, and not exported" for name in lacking]
     for name, behind in re.findall(r'\bask\(of, "(\w+)", [\w.]+(.*)', script):
         numbers = re.match(r", \{[^}]*?numbers: \[([^\]]*)\]", behind)
-        first = RUNS if name.endswith("_of") else []
+        first = RUNS if name.endswith(("_of", "_as")) else []
         wanted = [*first, *["uint32_t"] * len(parts_of(numbers[1]) if numbers else []), *INPUT, "sm_answer *"]
         wrong += differs("embed/page/judging.js", name, wanted, types_of(functions, name)[0])
     for name, inputs in re.findall(r'\bhanded\(of, "(\w+)", (\[[^\]]*\]|inputs)\)', script):

@@ -1,6 +1,6 @@
 """Turns, cuts, doubles and moves pieces of inputs, by what is drawn."""
 from campaigns import bytes_of
-from layout import Bundle, Log, front_length, small_front, small_in_evidence, text_length
+from layout import Bundle, Log, front_length, generals_of, small_front, small_in_evidence, text_length, with_shared_root
 
 VALUES = [0, 1, 2, 3, 4, 15, 16, 17, 254, 255]
 NUMBERS = ["0", "1", "2", "3", "7", "8", "9", "15", "16", "17", "255", "256", "00", "01", "-1", "+1", "", "x", "9" * 40]
@@ -138,6 +138,15 @@ def bend_text(draws, text):
     return "".join(f"{line}\n" for line in lines).encode()
 
 
+# Headers.
+
+
+def share_root(draws, *given):
+    """Two generals have one root, in each of these bundles or pieces of evidence."""
+    first, second = (draws.below(generals_of(given[0])) for _ in range(2))
+    return [with_shared_root(data, first, second) for data in given]
+
+
 # Bundles.
 
 
@@ -240,6 +249,8 @@ def bend_bundle(draws, data):
     """A bundle with one change."""
     if draws.is_one_in(5):
         return bend_bytes(draws, data)
+    if draws.is_one_in(16):
+        return share_root(draws, data)[0]
     bundle = Bundle(data)
     if draws.is_one_in(3):
         return bend_small(draws, data, bundle.small_places())
@@ -272,6 +283,11 @@ def other_front(draws, runs, other):
     return bytes_of(*runs)
 
 
+def other_root(draws, runs, other):
+    """Two generals have one root in each run."""
+    return bytes_of(*share_root(draws, *runs))
+
+
 def other_count(draws, runs, other):
     """Another number of runs, or another mark, or little more than the mark."""
     data = bytes_of(*runs)
@@ -286,7 +302,7 @@ def bend_campaign(draws, runs, other):
     """A campaign of bundles with one change."""
     if draws.is_one_in(4):
         return bend_bytes(draws, bytes_of(*runs))
-    return draws.one_of([other_runs, other_runs, other_front, other_count])(draws, runs, other)
+    return draws.one_of([other_runs, other_runs, other_front, other_count, other_root])(draws, runs, other)
 
 
 # Evidence.
@@ -308,6 +324,8 @@ def bend_evidence(draws, data):
     """Evidence with one change."""
     if draws.is_one_in(3):
         return bend_bytes(draws, data)
+    if draws.is_one_in(16):
+        return share_root(draws, data)[0]
     if draws.is_one_in(6):
         mark = data[:3] + bytes([data[3] ^ 3])
         return mark + data[4:]

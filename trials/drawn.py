@@ -316,10 +316,10 @@ def spoil_text(draws, text):
 # Words.
 
 COMMANDS = ["decide", "run", "judge", "campaign", "audit", "draw", "accuse", "evidence", "show", "words", "explain"]
-COMMANDS += ["root", "header", "bundle", "answer"]
+COMMANDS += ["root", "header", "plan", "bundle", "answer"]
 TAKES = {
     "run": ["capacity"], "judge": ["capacity", "workers"], "campaign": ["capacity"],
-    "audit": ["workers"], "draw": ["workers"], "accuse": ["general"], "header": ["slot"],
+    "audit": ["workers"], "draw": ["workers"], "accuse": ["general"], "header": ["slot"], "plan": ["slot"],
 }
 FLAGS = {
     "decide": ["json"], "run": ["print-run"], "judge": ["strict", "json"], "campaign": ["print-run"],

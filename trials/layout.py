@@ -16,6 +16,18 @@ def front_length(data):
     return MARK + fixed + 2 * data[MARK + fixed - 1] + 32 * data[MARK + fixed - 6]
 
 
+def generals_of(data):
+    """How many generals the header has."""
+    return data[MARK + version_of(data)]
+
+
+def with_shared_root(data, first, second):
+    """The same with the root of the second general in the place of that of the first."""
+    roots = front_length(data) - 32 * generals_of(data)
+    at, other = roots + 32 * first, roots + 32 * second
+    return data[:at] + data[other : other + 32] + data[at + 32 :]
+
+
 def small_front(data):
     """The places of the mark and of the header, without its roots."""
     fixed = 7 if version_of(data) == 1 else 8

@@ -12,7 +12,7 @@ import subprocess
 import tempfile
 from typing import NamedTuple
 
-from layout import MARK, Bundle
+from layout import MARK, Bundle, with_shared_root
 from programs import End, count_cores, run, shown, side_by_side, spell
 from scenarios import ZEROS, header_text, signed, sixteen
 
@@ -183,7 +183,12 @@ def prepared_cases(program, folder):
     yield "a seed", ["root", "--tall"], bytes(range(32))
     yield "no seed", ["root"], b"seed"
     yield "a header's text", ["header", "--slot", "1", "--print-run"], header_text()
+    yield "a header's text", ["plan"], header_text()
+    yield "a line with a general missing", ["plan", "--slot", "1"], header_text(signed()["no_walk"])
     data = run(program, ["run"], signed()["split"]).wrote
+    yield "a bundle", ["plan"], data
+    shared = with_shared_root(data, 0, 2)
+    yield from (("equal roots", words, shared) for words in (["audit", "--strict"], ["show"], ["show", "--json"]))
     split = Bundle(data)
     files = {"header": split.front[MARK:], "log": split.exhibits[1][1]}
     files["evidence"] = run(program, ["accuse", "--general", "0"], data).wrote

@@ -342,8 +342,7 @@ def try_words(program, prefix, tally):
     """Pages of the manual, and completions."""
     there = all_files(os.path.join(prefix, "share", "man", "man3"))
     tally.hold("pages of section 3", None if there == sorted(pages()) else f"{there}")
-    words, told = commands_of(program), {*completions.commands()[0], *completions.OTHERS}
-    lacking = {it for it in words if it.isalpha()} ^ told
+    lacking = commands_of(program) ^ {*completions.commands()[0], *completions.OTHERS}
     tally.hold("commands that are completed", f"{lacking}" if lacking else None)
     if shutil.which("bash"):
         words = 'COMP_WORDS=(sm_tool audit --workers ""); COMP_CWORD=3; _sm_tool; echo "${COMPREPLY[*]}"'

@@ -55,7 +55,8 @@ def sixteen(slot=None):
     return scenario(everybody(16), 8, 8, 14, orders=15, choice=1, slot=slot)
 
 
-def header_text():
-    """The text of a header of two generals, whose roots are any bytes."""
-    network = signed()["pair"].partition(b"\norder ")[0]
-    return network + b"\nroot " + b"01" * 32 + b"\nroot " + b"ab" * 32 + b"\nend\n"
+def header_text(text=None):
+    """The text of a header with the network of a scenario, or of two generals. The roots are any bytes, no two the same."""
+    network = (text or signed()["pair"]).partition(b"\norder ")[0]
+    roots = [b"root " + b"%02x" % (0xAA + general) * 32 for general in range(int(network.split()[1]))]
+    return b"\n".join([network, *roots, b"end\n"])

@@ -399,6 +399,18 @@ def answer_evidence(evidence: bytes, log: bytes, job: Job) -> Tuple[int, bytes]:
     return (1, b"no answer\n") if line is None else (0, line)
 
 
+def plan_line(header: bytes) -> bytes:
+    """The line that says why the plan of a header fails; none if it holds (FORMATS.md#the-programs-answers)."""
+    holds, text = plan_text(planned_header(header, None))
+    return b"" if holds else b", ".join([*text.split(b"\n")[:3], b"see sm_tool plan\n"])
+
+
+def told_of(job: Job, output: bytes) -> bytes:
+    """What standard error says of an output (FORMATS.md#the-programs-answers)."""
+    runs = run_ids_text(job, output) if "print-run" in job.flags else b""
+    return runs + (plan_line(output) if job.command == "header" else b"")
+
+
 def run_ids_text(job: Job, output: bytes) -> bytes:
     """The line with the run ids of a header, a bundle or a campaign (FORMATS.md#the-programs-answers)."""
     if job.command == "header":
@@ -483,7 +495,7 @@ def answer_job(job: Job, inputs: Sequence[bytes]) -> Answer:
         status, output = COMMANDS[job.command](*inputs, job=job)
     except Fault as fault:
         return failed(job, 3, f"fault {fault.words}", line_behind(job, inputs, fault.words), inputs[0])
-    return status, output, run_ids_text(job, output) if "print-run" in job.flags else b""
+    return status, output, told_of(job, output)
 
 
 def refused_text(refused: Refused, words: List[str]) -> Answer:

@@ -36,9 +36,9 @@ use Rattle.gen_jobs.specs.Asking.{AuditsAs, IsAuditedFrom, counts_as_no, has_few
 use Rattle.gen_jobs.specs.Audit.{Audits, AuditsShown, IsAudited, is_no}
 use Rattle.gen_jobs.specs.Holding.{IsHeldAs}
 use Rattle.gen_jobs.specs.Judging.{JudgesRun}
-use Rattle.gen_jobs.specs.declared.asked.Asked.{Asked}
-use Rattle.gen_jobs.specs.declared.faulty.Faulty.{Faulty}
-use Rattle.gen_jobs.specs.declared.faulty.Faulty.TheVariants.{Listed, These}
+use Rattle.gen_asked.specs.declared.asked.Asked.{Asked}
+use Rattle.gen_asked.specs.declared.faulty.Faulty.{Faulty}
+use Rattle.gen_asked.specs.declared.faulty.Faulty.TheVariants.{Listed, These}
 use Rattle.gen_jobs.specs.Run.{IsRunAnswer}
 
 -- the bytes of what is shown stand in the bundle's

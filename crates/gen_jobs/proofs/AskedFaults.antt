@@ -9,13 +9,14 @@ use Rattle.gen_campaign.specs.Campaign.{CampaignBundle, IsCampaign}
 use Rattle.gen_campaign.specs.CampaignSpelling.{campaign_spelling}
 use Rattle.gen_convict.specs.EvidenceReading.{IsWhole}
 use Rattle.gen_convict.specs.EvidenceSpelling.{HeaderAndEvidence, whole_spelling}
-use Rattle.gen_jobs.specs.AskedRuns.{AreAsked, run_ids}
+use Rattle.gen_asked.specs.AskedRuns.{AreAsked}
+use Rattle.gen_jobs.specs.RunIds.{run_ids}
 use Rattle.gen_jobs.specs.Asking.{IsHeldFault, IsOfOther, IsShowFault, OthersAsked}
 use Rattle.gen_jobs.specs.Audit.{ByWorkers}
 use Rattle.gen_jobs.specs.Failing.{audit_failure}
 use Rattle.gen_jobs.specs.Holding.{IsHoldFault}
-use Rattle.gen_jobs.specs.declared.asked.Asked.{Asked}
-use Rattle.gen_jobs.specs.declared.asked_runs.AskedRuns.{AskedRuns}
+use Rattle.gen_asked.specs.declared.asked.Asked.{Asked}
+use Rattle.gen_asked.specs.declared.asked_runs.AskedRuns.{AskedRuns}
 use Rattle.gen_jobs.specs.declared.ends.JobFault.{JobFault}
 use Rattle.gen_jobs.specs.declared.ends.JobFault.TheVariants as faults
 

@@ -16,8 +16,8 @@ use Rattle.gen_json.specs.OriginData.{Origin}
 use Rattle.gen_jobs.specs.Asking.{IsAuditedFrom, IsJudgedFrom}
 use Rattle.gen_jobs.specs.Audit.{IsAudited}
 use Rattle.gen_jobs.specs.Run.{IsRunAnswer}
-use Rattle.gen_jobs.specs.declared.asked.Asked.{Asked}
-use Rattle.gen_jobs.specs.declared.faulty.Faulty.TheVariants.{Listed}
+use Rattle.gen_asked.specs.declared.asked.Asked.{Asked}
+use Rattle.gen_asked.specs.declared.faulty.Faulty.TheVariants.{Listed}
 
 -- a bundle that stands alone, as a `CampaignBundle`
 abbrev pub alone : Bundle → CampaignBundle

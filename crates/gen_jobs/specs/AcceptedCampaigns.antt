@@ -9,8 +9,8 @@ use Rattle.gen_json.specs.OriginData.{Origin}
 use Rattle.gen_jobs.specs.Asking.{IsAuditedFrom}
 use Rattle.gen_jobs.specs.Audit.{IsAudited}
 use Rattle.gen_jobs.specs.Campaigning.{IsCampaignRun}
-use Rattle.gen_jobs.specs.declared.asked.Asked.{Asked}
-use Rattle.gen_jobs.specs.declared.faulty.Faulty.TheVariants.{Listed}
+use Rattle.gen_asked.specs.declared.asked.Asked.{Asked}
+use Rattle.gen_asked.specs.declared.faulty.Faulty.TheVariants.{Listed}
 
 -- the bundles of the runs of a campaign, as a `CampaignBundle`
 abbrev pub together : List Bundle → CampaignBundle

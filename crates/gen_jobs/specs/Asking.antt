@@ -19,20 +19,21 @@ use Rattle.gen_campaign.specs.declared.campaign_fault.CampaignFault.{CampaignFau
 use Rattle.gen_json.specs.OriginData.{Origin}
 use Rattle.gen_show.specs.HeaderText.{equal_roots_lines}
 use Rattle.gen_jobs.specs.Accusing.{AccusesRuns}
-use Rattle.gen_jobs.specs.AskedRuns.{AreAsked, run_ids}
+use Rattle.gen_asked.specs.AskedRuns.{AreAsked}
+use Rattle.gen_jobs.specs.RunIds.{run_ids}
 use Rattle.gen_jobs.specs.Audit.{AuditsShown, IsAuditFault}
 use Rattle.gen_jobs.specs.Checking.{IsEvidenceFault, Tells}
 use Rattle.gen_jobs.specs.Drawing.{DrawsForm}
 use Rattle.gen_jobs.specs.Holding.{IsHeldAs, held_fault}
 use Rattle.gen_jobs.specs.Judging.{JudgesRun}
 use Rattle.gen_jobs.specs.Origins.{nothing_asked, origin_in}
-use Rattle.gen_jobs.specs.declared.asked.Asked.{Asked}
-use Rattle.gen_jobs.specs.declared.asked_runs.AskedRuns.{AskedRuns}
-use Rattle.gen_jobs.specs.declared.faulty.Faulty.TheVariants.{Listed}
+use Rattle.gen_asked.specs.declared.asked.Asked.{Asked}
+use Rattle.gen_asked.specs.declared.asked_runs.AskedRuns.{AskedRuns}
+use Rattle.gen_asked.specs.declared.faulty.Faulty.TheVariants.{Listed}
 use Rattle.gen_jobs.specs.declared.ends.JobFault.{JobFault}
 use Rattle.gen_jobs.specs.declared.ends.JobFault.TheVariants as faults
-use Rattle.gen_jobs.specs.declared.forms.Form.{Form}
-use Rattle.gen_jobs.specs.declared.forms.Form.TheVariants.{Text, Json}
+use Rattle.gen_asked.specs.declared.forms.Form.{Form}
+use Rattle.gen_asked.specs.declared.forms.Form.TheVariants.{Text, Json}
 
 -- memory was refused, or the runs with these ids are not the ones that are asked for
 abbrev pub OthersAsked : AskedRuns → List (List ℕ) → JobFault → Type 0

@@ -8,8 +8,8 @@ use Rattle.gen_json.specs.EvidenceData.{evidence_data}
 use Rattle.gen_json.specs.Line.{json_line}
 use Rattle.gen_jobs.specs.declared.ends.JobFault.{JobFault}
 use Rattle.gen_jobs.specs.declared.ends.JobFault.TheVariants as faults
-use Rattle.gen_jobs.specs.declared.forms.Form.{Form}
-use Rattle.gen_jobs.specs.declared.forms.Form.TheVariants.{Text, Json}
+use Rattle.gen_asked.specs.declared.forms.Form.{Form}
+use Rattle.gen_asked.specs.declared.forms.Form.TheVariants.{Text, Json}
 
 -- the claim of the evidence is a contradiction of the accused
 abbrev pub Holds : HeaderAndEvidence → Type 0

@@ -9,10 +9,11 @@ ghost use Rattle.gen_jobs.specs.Asking.{IsAccusedOf, IsShowFault};
 ghost use Rattle.gen_jobs.specs.Audit.{ByWorkers};
 ghost use Rattle.gen_jobs.specs.Ends.{IsTaken, KeepsUntilWhole};
 
-use crate::asked_runs::{AskedRuns, check_runs};
 use crate::ends::{JobEnd, JobFault, Output};
 use crate::gates::Open;
+use crate::run_ids::check_runs;
 use crate::transfer::{deliver, read_all};
+use gen_asked::AskedRuns;
 use gen_audit::{Bundle, Judgement, WorkerCount};
 use gen_campaign::{CampaignBundle, CampaignVerdict, audit_campaign, read_taken_campaign};
 use gen_convict::{Claim, Evidence, write_evidence};

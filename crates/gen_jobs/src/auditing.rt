@@ -8,15 +8,14 @@ ghost use Rattle.gen_jobs.specs.Asking.{IsAuditedBy, IsHeldFault};
 ghost use Rattle.gen_jobs.specs.Audit.{AuditsShown, ByWorkers, is_no, judgement_text};
 ghost use Rattle.gen_jobs.specs.Ends.{IsTaken, KeepsUntilWhole};
 
-use crate::asked::Asked;
-use crate::asked_runs::check_runs;
 use crate::counting::{counted, have_few, shared_roots};
 use crate::ends::{JobEnd, JobFault, Output};
-use crate::forms::Form;
 use crate::gates::Open;
 use crate::holding::held_as;
 use crate::origins::origin_in;
+use crate::run_ids::check_runs;
 use crate::transfer::{deliver, read_all};
+use gen_asked::{Asked, Form};
 use gen_audit::{Bundle, Judgement, Verdict, WorkerCount};
 use gen_campaign::{
     CampaignBundle, CampaignVerdict, audit_campaign, print_campaign, read_taken_campaign,

@@ -6,12 +6,11 @@ ghost use Rattle.gen_jobs.specs.Answering.{Answers};
 ghost use Rattle.gen_jobs.specs.Asking.{IsCheckedIn, IsCheckedOf, IsEvidenceFaultOf};
 ghost use Rattle.gen_jobs.specs.Checking.{IsChecked, IsEvidenceFault, Tells};
 ghost use Rattle.gen_jobs.specs.Ends.{IsTaken, KeepsUntilWhole};
-ghost use Rattle.gen_jobs.specs.declared.forms.Form.TheVariants.{Text};
+ghost use Rattle.gen_asked.specs.declared.forms.Form.TheVariants.{Text};
 
-use crate::asked_runs::AskedRuns;
 use crate::ends::{JobEnd, JobFault, Output};
-use crate::forms::Form;
 use crate::transfer::{deliver, read_all};
+use gen_asked::{AskedRuns, Form};
 use gen_convict::{Evidence, check_evidence, read_evidence};
 use gen_json::print_evidence_json;
 use gen_net::Header;

@@ -5,8 +5,8 @@ ghost use Rattle.gen_jobs.specs.Decide.{IsDecided, IsDecidedIn, IsDecideFault, t
 ghost use Rattle.gen_jobs.specs.Ends.{IsTaken, KeepsUntilWhole};
 
 use crate::ends::{JobEnd, JobFault, Output};
-use crate::forms::Form;
 use crate::transfer::{deliver, read_all};
+use gen_asked::Form;
 use gen_json::print_decisions_json;
 use gen_report::{ScenarioText, print_decisions, read_scenario};
 use gen_scenario::Scenario;

@@ -10,12 +10,12 @@ ghost use Rattle.gen_jobs.specs.Audit.{ByWorkers};
 ghost use Rattle.gen_jobs.specs.Drawing.{DrawsForm, first_picture};
 ghost use Rattle.gen_jobs.specs.Ends.{IsTaken, KeepsUntilWhole};
 
-use crate::asked::Asked;
-use crate::asked_runs::check_runs;
 use crate::ends::{JobEnd, JobFault, Output};
 use crate::gates::Open;
 use crate::holding::held_as;
+use crate::run_ids::check_runs;
 use crate::transfer::{deliver, read_all};
+use gen_asked::Asked;
 use gen_audit::WorkerCount;
 use gen_campaign::{CampaignBundle, CampaignVerdict, audit_campaign, read_taken_campaign};
 use gen_draw::{draw as draw_bundle, draw_campaign};

@@ -9,15 +9,13 @@ ghost use Rattle.gen_jobs.specs.Audit.{IsAudited, IsAuditFault};
 ghost use Rattle.gen_jobs.specs.Drawing.{IsDrawn};
 
 use crate::accusing::evidence_by;
-use crate::asked::Asked;
-use crate::asked_runs::{AskedRuns, check_runs};
 use crate::auditing::output_by;
 use crate::counting::{counted, have_few, shared_roots};
 use crate::drawing::picture_by;
 use crate::ends::{JobFault, Output};
-use crate::faulty::Faulty;
-use crate::forms::Form;
 use crate::origins::origin_in;
+use crate::run_ids::check_runs;
+use gen_asked::{Asked, AskedRuns, Faulty, Form};
 use gen_campaign::{audit_campaign_in_place, read_campaign};
 use gen_types::GeneralNo;
 use std::alloc::Global;

@@ -10,8 +10,6 @@
 #![tactic(auto)]
 
 mod accusing;
-mod asked;
-mod asked_runs;
 mod auditing;
 mod bundle_text;
 mod campaign_text;
@@ -23,8 +21,6 @@ mod drawing;
 mod ends;
 mod fault_json;
 mod fault_lines;
-mod faulty;
-mod forms;
 mod gates;
 mod holding;
 mod in_place;
@@ -38,14 +34,13 @@ mod origins;
 mod plan_lines;
 mod planning;
 mod preparing;
+mod run_ids;
 mod running;
 mod showing;
 mod telling;
 mod transfer;
 
 pub use accusing::{accuse_as_asked, accuse_engine};
-pub use asked::Asked;
-pub use asked_runs::{AskedRuns, read_run_ids};
 pub use auditing::{audit_as_asked, audit_engine};
 pub use bundle_text::{BundleText, deliver_bundle};
 pub use campaign_text::{CampaignText, deliver_campaign};
@@ -56,14 +51,12 @@ pub use drawing::{draw_as_asked, draw_engine};
 pub use ends::{JobEnd, JobFault, Output};
 pub use fault_json::job_fault_json;
 pub use fault_lines::job_fault_line;
-pub use faulty::{Faulty, read_faulty};
-pub use forms::Form;
 pub use in_place::{
     accuse_asked_in_place, accuse_in_place, audit_asked_in_place, audit_form_in_place,
     audit_in_place, draw_asked_in_place, draw_in_place,
 };
 pub use input_kinds::{InputKind, input_kind};
-pub use jobs::{Job, do_job};
+pub use jobs::do_job;
 pub use joining::{answer, join_in_pieces};
 pub use judging::{judge_as_asked, judge_engine};
 pub use naming::name_file;
@@ -71,5 +64,5 @@ pub use planning::{plan, plan_engine};
 pub use preparing::{header, header_engine, root, root_engine};
 pub use running::{run_engine, run_in_pieces};
 pub use showing::{show_engine, show_in};
-pub use telling::{Telling, tell, tell_engine};
+pub use telling::{tell, tell_engine};
 pub use transfer::{deliver, read_all, write_output};

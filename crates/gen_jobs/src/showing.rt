@@ -1,20 +1,20 @@
 //! The job `show`: writes what a file is, of the runs that are asked for.
 ghost use Rattle.std.specs.Prelude.{◌≡◌, IfErr, IfOk, IfSome, option_map};
 ghost use Rattle.std.specs.Bool.{Decides};
-ghost use Rattle.gen_show.specs.Showing.{file_kind};
+ghost use Rattle.gen_file.specs.Kinds.{file_kind};
 ghost use Rattle.gen_jobs.specs.Answering.{Answers};
 ghost use Rattle.gen_jobs.specs.Ends.{IsTaken, KeepsUntilWhole};
 ghost use Rattle.gen_jobs.specs.Showing.{AreAskedOf, IsShownFault, IsShownIn, runs_as};
 
-use crate::asked_runs::{AskedRuns, run_ids};
 use crate::ends::{JobEnd, JobFault, Output};
-use crate::forms::Form;
+use crate::run_ids::run_ids;
 use crate::telling::tell_file;
 use crate::transfer::{deliver, read_all};
+use gen_asked::{AskedRuns, Form};
 use gen_campaign::read_campaign;
 use gen_convict::read_evidence;
+use gen_file::{FileKind, file_kind};
 use gen_net::read_header;
-use gen_show::{FileKind, file_kind};
 use gen_types::ReadError;
 use std::alloc::{AllocError, Global};
 use std::io::{Read, Write};

@@ -5,21 +5,10 @@ ghost use Rattle.gen_jobs.specs.Ends.{IsTaken, KeepsUntilWhole};
 ghost use Rattle.gen_jobs.specs.Telling.{IsMemory, IsTold, TellsFile};
 
 use crate::ends::{JobEnd, JobFault, Output};
-use crate::forms::Form;
 use crate::transfer::{deliver, read_all};
+use gen_asked::{Form, Telling};
 use std::alloc::{AllocError, Global};
 use std::io::{Read, Write};
-
-/// What is told of an input.
-#[derive(Clone, Copy, Debug, PartialEq, Eq)]
-pub enum Telling {
-    /// What the file is, line by line: a bundle, a campaign, evidence or a header alone.
-    File,
-    /// What the name means: a fault, a finding, a kind of conviction, a verdict or a status.
-    Name,
-    /// The text, with what each of its lines means behind the line.
-    Text,
-}
 
 /// Returns in this form what a file is, and says no if it is no whole file of its kind.
 pub(crate) fn tell_file(alloc: Global, form: Form, input: &[u8]) -> Result<Output, AllocError>

@@ -1,14 +1,15 @@
 //! The forms of jobs: over a reader and a writer, over bytes, and in the thread that calls.
 ghost use Rattle.std.specs.Prelude.{◌<◌};
-ghost use Rattle.gen_jobs.specs.Ranges.{IsInRange};
+ghost use Rattle.gen_asked.specs.Ranges.{IsInRange};
 
+use gen_asked::{Asked, AskedRuns, Faulty, Form as Answering, Job};
 use gen_audit::WorkerCount;
 use gen_jobs::{
-    Asked, AskedRuns, Faulty, Form as Answering, Job, JobEnd, JobFault, Output, accuse_as_asked,
-    accuse_asked_in_place, accuse_in_place, audit_as_asked, audit_asked_in_place,
-    audit_form_in_place, audit_in_place, campaign, decide, decide_in, deliver, do_job,
-    draw_as_asked, draw_asked_in_place, draw_in_place, evidence, evidence_as_asked, evidence_in,
-    header, judge_as_asked, plan, root, run_in_pieces, show_in, tell,
+    JobEnd, JobFault, Output, accuse_as_asked, accuse_asked_in_place, accuse_in_place,
+    audit_as_asked, audit_asked_in_place, audit_form_in_place, audit_in_place, campaign, decide,
+    decide_in, deliver, do_job, draw_as_asked, draw_asked_in_place, draw_in_place, evidence,
+    evidence_as_asked, evidence_in, header, judge_as_asked, plan, root, run_in_pieces, show_in,
+    tell,
 };
 use gen_types::GeneralNo;
 use std::alloc::Global;

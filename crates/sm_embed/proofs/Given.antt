@@ -6,7 +6,7 @@ use Rattle.std.proofs.lemmas.Option.{none-some, same_Some}
 use Rattle.gen_jobs.specs.declared.ends.JobFault.{JobFault}
 use Rattle.gen_jobs.specs.declared.ends.Output.{Output}
 use Rattle.gen_jobs.specs.declared.ends.JobFault.TheVariants as faults
-use Rattle.gen_jobs.specs.declared.asked_runs.AskedRuns.{AskedRuns}
+use Rattle.gen_asked.specs.declared.asked_runs.AskedRuns.{AskedRuns}
 use Rattle.gen_jobs.specs.Asking.{IsShowFault}
 use Rattle.gen_jobs.specs.Audit.{IsAuditFault}
 use Rattle.sm_embed.specs.Handing.{Hands, HandsOver, IsHanded}

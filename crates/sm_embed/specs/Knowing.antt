@@ -7,7 +7,7 @@ use Rattle.gen_campaign.specs.CampaignSpelling.{campaign_spelling}
 use Rattle.gen_jobs.specs.Accusing.{IsAccused}
 use Rattle.gen_jobs.specs.Asking.{IsAccusedOf, IsShowFault}
 use Rattle.gen_jobs.specs.Audit.{IsAuditFault}
-use Rattle.gen_jobs.specs.declared.asked_runs.AskedRuns.{AskedRuns}
+use Rattle.gen_asked.specs.declared.asked_runs.AskedRuns.{AskedRuns}
 use Rattle.gen_jobs.specs.declared.ends.JobFault.{JobFault}
 use Rattle.gen_jobs.specs.declared.ends.Output.{Output}
 use Rattle.sm_embed.specs.Handing.{IsHanded, IsUntouched}

@@ -1,16 +1,16 @@
 -- What a call makes of an answer that a caller in another language holds.
 use Rattle.std.specs.Prelude.{ℕ, ◌≡◌, ◌==◌, not, if◌then◌else◌, Bool, true, false, List, [], ◌∷◌}
 use Rattle.std.specs.Prelude.{Option, Some, None, Result, Ok, Err}
-use Rattle.gen_jobs.specs.AskedRuns.{few_runs}
+use Rattle.gen_asked.specs.AskedRuns.{few_runs}
 use Rattle.gen_jobs.specs.Ends.{fault_status}
 use Rattle.gen_jobs.specs.FaultLines.{job_fault_line}
-use Rattle.gen_jobs.specs.declared.asked_runs.AskedRuns.{AskedRuns}
-use Rattle.gen_jobs.specs.declared.asked_runs.AskedRuns.TheVariants.{Any}
+use Rattle.gen_asked.specs.declared.asked_runs.AskedRuns.{AskedRuns}
+use Rattle.gen_asked.specs.declared.asked_runs.AskedRuns.TheVariants.{Any}
 use Rattle.gen_jobs.specs.declared.ends.JobFault.{JobFault}
 use Rattle.gen_jobs.specs.declared.ends.JobFault.TheVariants as faults
 use Rattle.gen_jobs.specs.declared.ends.Output.{Output}
-use Rattle.gen_jobs.specs.declared.forms.Form.{Form}
-use Rattle.gen_jobs.specs.declared.forms.Form.TheVariants.{Text, Json}
+use Rattle.gen_asked.specs.declared.forms.Form.{Form}
+use Rattle.gen_asked.specs.declared.forms.Form.TheVariants.{Text, Json}
 use Rattle.sm_embed.specs.Handing.{IsOfInput, IsUntouched, PutsText}
 use Rattle.sm_embed.specs.declared.kept.Kept.{Kept}
 use Rattle.sm_embed.specs.declared.made.Made.{Made}

@@ -4,8 +4,9 @@ ghost use Rattle.gen_jobs.specs.Asking.{IsShowFault};
 ghost use Rattle.gen_jobs.specs.Audit.{IsAuditFault};
 ghost use Rattle.sm_embed.specs.Knowing.{Knows, TellsKnown, TellsKnownOf, is_known};
 
+use gen_asked::AskedRuns;
 use gen_campaign::{CampaignBundle, read_campaign};
-use gen_jobs::{AskedRuns, JobFault, Output, accuse_asked_in_place, accuse_in_place};
+use gen_jobs::{JobFault, Output, accuse_asked_in_place, accuse_in_place};
 use gen_types::GeneralNo;
 use std::alloc::Global;
 

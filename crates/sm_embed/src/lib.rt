@@ -44,7 +44,7 @@ ghost use Rattle.gen_jobs.specs.Joining.{IsReplyFault};
 ghost use Rattle.gen_jobs.specs.Planning.{IsPlan, IsPlanFault};
 ghost use Rattle.gen_jobs.specs.Showing.{IsShownFault, IsShownIn};
 ghost use Rattle.gen_jobs.specs.Telling.{IsMemory, IsTold};
-ghost use Rattle.gen_jobs.specs.declared.telling.Telling.TheVariants as tellings;
+ghost use Rattle.gen_asked.specs.declared.telling.Telling.TheVariants as tellings;
 ghost use Rattle.sm_embed.specs.Handing.{IsHanded, IsUntouched};
 ghost use Rattle.sm_embed.specs.Knowing.{AccusesKnown, MakesKnownIf};
 ghost use Rattle.sm_embed.specs.Making.{HandsKept, IsMade, IsMisuse, MakesIf, MakesIn, asked_in, form_in, is_strict};
@@ -65,8 +65,9 @@ use crate::knowing::{accuse_known, accuse_known_of};
 use crate::making::{MISUSE, asked_in, form_in, hand_kept, keep};
 use crate::opaque::SmAnswer;
 use crate::runs::tell_runs;
+use gen_asked::Telling;
 use gen_jobs::{
-    Telling, accuse_asked_in_place, accuse_in_place, audit_asked_in_place, audit_form_in_place,
+    accuse_asked_in_place, accuse_in_place, audit_asked_in_place, audit_form_in_place,
     audit_in_place, decide, decide_in, draw_asked_in_place, draw_in_place, evidence,
     evidence_as_asked, evidence_in, plan, show_in, tell,
 };

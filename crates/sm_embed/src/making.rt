@@ -8,7 +8,8 @@ use crate::handing::{line_of_input, put};
 use crate::kept::Kept;
 use crate::made::Made;
 use crate::opaque::SmAnswer;
-use gen_jobs::{AskedRuns, Form, JobFault, Output};
+use gen_asked::{AskedRuns, Form};
+use gen_jobs::{JobFault, Output};
 use std::alloc::Global;
 
 /// The number that says that a text was put into the room.

@@ -1,5 +1,5 @@
 use Rattle.gen_jobs.specs.Telling.{IsMemory, IsTold}
-use Rattle.gen_jobs.specs.declared.telling.Telling.TheVariants as tellings
+use Rattle.gen_asked.specs.declared.telling.Telling.TheVariants as tellings
 use Rattle.sm_embed.proofs.Given.{is_made}
 use Rattle.sm_embed.proofs.sm_show.Goals as goal
 
