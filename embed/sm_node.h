@@ -5,9 +5,9 @@
    frames. A general is a node, and an order is a value.
 
    An sm_node is one pointer. The caller sets it to null before the first call, as by `sm_node node = {0};`, and does
-   not read or write it afterwards. Null means that there is no node: sm_node_new makes a node there, and sm_node_free
-   takes it away. An sm_node is never copied. No call keeps a pointer that it was handed: header, seed, frame and
-   logs may be changed or freed when the call has returned.
+   not read or write it afterwards. Null means that nothing is there. sm_node_keys makes the keys of a seed there, or
+   sm_node_new makes a node of keys, and sm_node_free takes away what is there. An sm_node is never copied. No call keeps
+   a pointer that it was handed: header, seed, keys, frame and logs may be changed or freed when the call has returned.
 
    In version 1, one seed makes one node ever, for one run. In version 2, one seed makes one node ever in each slot, for
    one run. A node on which sm_node_begin_round was never called has signed nothing. A second node of the seed and slot
@@ -46,7 +46,7 @@
    - At most PTRDIFF_MAX bytes are passed as one input or room.
    - Any thread may make a call on a node, but one call at a time. What orders two calls of different threads is a lock,
      the start or the end of a thread, or an atomic variable (memory_order_seq_cst). Threads may call at the same time
-     on nodes of their own, and make the calls that have no node.
+     on nodes and keys of their own, and make the calls that have none.
    - There is enough stack: 1 MiB was enough for each call that was tried, of up to 16 generals.
    - No call is made from a signal handler, nor in the forked child of a process with threads.
    - rattle_alloc, rattle_realloc and rattle_dealloc are those of heap.c, or keep the rules in its comment.
@@ -62,7 +62,6 @@ extern "C" {
 
 /* Old names, which the next version does not have. */
 #define sm_node_status sm_status
-#define sm_root sm_node_root
 #define sm_header sm_node_header
 #define sm_header_numbers sm_node_header_numbers
 #define sm_rounds sm_node_rounds
@@ -78,8 +77,10 @@ enum sm_node_fault {
     SM_H1 = 1, SM_H2, SM_H3, SM_H4, SM_H5, SM_H6, SM_H7, SM_H8, SM_H9, SM_H10, SM_H11, /* of a header */
     SM_LEFT_OVER = 12,  /* bytes are left over behind a header */
     SM_NO_GENERAL = 13, /* the number is none of the header's generals, or the order does not fit the general */
-    SM_OTHER_ROOT = 14, /* the header has another root for the general than that of the seed's keys */
+    SM_OTHER_ROOT = 14, /* the header has another root for the general than that of the keys */
     SM_EQUAL_ROOTS = 15, /* two generals have the same root */
+    SM_OTHER_VERSION = 16, /* the keys are of another version than the header */
+    SM_USED_SLOT = 17, /* a node was made of the keys in the slot of the header, or in a later one */
     SM_F1 = 21, SM_F2, SM_F3, SM_F4, SM_F5, SM_F6, SM_F7, SM_F8, /* of a frame */
     SM_U1 = 31, SM_U2,  /* two generals that are not held for faulty have no walk, or none of at most d edges */
     /* Of a bundle. Only SM_B4, SM_B7 and SM_B9 can come, as no bundle is read, and the library makes the walks. A fault
@@ -88,7 +89,7 @@ enum sm_node_fault {
     SM_LONG_LOG = 50    /* a log has 2^32 bytes or more */
 };
 
-/* A node: its content is the library's. */
+/* A node, or keys: the content is the library's. */
 typedef struct {
     void *at;
 } sm_node;
@@ -116,11 +117,13 @@ typedef struct {
     size_t bytes;
 } sm_log;
 
-/* Writes the root of the keys that a seed makes, for headers of version 1 or 2. SM_MISUSE if it is another version.
-   A seed is 32 secret random bytes of the system's generator, as getrandom gives them: whoever knows the seed can sign
-   as the general. The root is no secret. The library does not wipe what it makes of a seed, and the caller wipes the
-   seed. Returns SM_OK, SM_MISUSE or SM_MEMORY. */
-uint32_t sm_node_root(const uint8_t seed[32], uint32_t version, uint8_t root[32]) SM_CALL(1, 3);
+/* Makes the keys of a seed, for headers of version 1 or 2, and writes their root. It is SM_MISUSE if something is there
+   already, or if it is another version. Keys of version 1 serve one node. Keys of version 2 serve nodes in the four
+   slots, in ascending order of the slots, and may be freed when their last node is made. A seed is 32 secret random
+   bytes of the system's generator, as getrandom gives them: whoever knows the seed, or the keys, can sign as the
+   general. The root is no secret. The library does not wipe what it makes of a seed, and the caller wipes the seed.
+   Returns SM_OK, SM_MISUSE or SM_MEMORY. */
+uint32_t sm_node_keys(sm_node *keys, const uint8_t seed[32], uint32_t version, uint8_t root[32]) SM_CALL(1, 2, 4);
 
 /* Writes the bytes of the header of these numbers, edges and roots: at most 8 + 2 * edge_count + 32 * root_count. An
    edge is two bytes, and the edges come in any order and direction. A root is 32 bytes, and the roots come in the order
@@ -131,12 +134,14 @@ uint32_t sm_node_header(const sm_numbers *numbers, const uint8_t *edges, size_t 
                         size_t root_count, uint8_t *room, size_t room_bytes, size_t *count, uint32_t *fault,
                         sm_pair *equal) SM_CALL(1, 2, 4, 6, 8, 9, 10);
 
-/* Makes a node of a header's bytes, the number of a general, the general's seed, and the order if the general is the
-   commander, else SM_NO_ORDER. SM_MISUSE if a node is there already, the general is above 15, or the order is neither 0
-   to 15 nor SM_NO_ORDER. An order that is none of the header's is SM_NO_GENERAL, so 15 always is: the greatest that a
-   header can have is 14. Returns SM_OK, SM_MISUSE, SM_FAULT or SM_MEMORY. */
-uint32_t sm_node_new(sm_node *node, const uint8_t *header, size_t header_bytes, uint32_t general,
-                     const uint8_t seed[32], uint32_t order, uint32_t *fault) SM_CALL(1, 2, 5, 7);
+/* Makes a node of a header's bytes, the number of a general, the general's keys, and the order if the general is the
+   commander, else SM_NO_ORDER. The keys then serve later slots alone, so no two nodes of them sign with one key. Faults
+   of the header are reported first, then SM_USED_SLOT, SM_OTHER_VERSION, SM_NO_GENERAL and SM_OTHER_ROOT. SM_MISUSE if
+   something is there already, `keys` are no keys, the general is above 15, or the order is neither 0 to 15 nor
+   SM_NO_ORDER. An order that is none of the header's is SM_NO_GENERAL, so 15 always is: the greatest that a header can
+   have is 14. Returns SM_OK, SM_MISUSE, SM_FAULT or SM_MEMORY. */
+uint32_t sm_node_new(sm_node *node, const uint8_t *header, size_t header_bytes, uint32_t general, sm_node *keys,
+                     uint32_t order, uint32_t *fault) SM_CALL(1, 2, 5, 7);
 
 /* Begins the next round: the node signs what it has to sign in this round. SM_MISUSE if there is no node, a round is
    open, or the last round has ended.
@@ -180,7 +185,7 @@ uint32_t sm_node_log(sm_node *node, uint8_t *room, size_t room_bytes, size_t *co
    SM_OK or SM_MISUSE. */
 uint32_t sm_node_order(sm_node *node, uint32_t *order) SM_CALL(1, 2);
 
-/* Frees what is there, at any time. Then there is no node. A ring of keys that is open is closed. */
+/* Frees what is there, a node or keys, at any time. Then nothing is there. A ring of keys that is open is closed. */
 void sm_node_free(sm_node *node);
 
 /* Writes the bytes of the bundle of a run. The caller hands in the header's bytes, the set of the generals that are
@@ -276,8 +281,10 @@ static inline const char *sm_node_fault_text(uint32_t fault) {
     case SM_H11: return "the slot is above 3";
     case SM_LEFT_OVER: return "bytes are left over behind the header";
     case SM_NO_GENERAL: return "the number is none of the header's generals, or the order does not fit the general";
-    case SM_OTHER_ROOT: return "the header has another root for the general than that of the seed's keys";
+    case SM_OTHER_ROOT: return "the header has another root for the general than that of the keys";
     case SM_EQUAL_ROOTS: return "two generals have the same root";
+    case SM_OTHER_VERSION: return "the keys are of another version than the header";
+    case SM_USED_SLOT: return "a node was made of the keys in the slot of the header, or in a later one";
     case SM_F1: return "no frame of this general is awaited";
     case SM_F2: return "the frame of this general was taken before";
     case SM_F3: return "the bytes end before the frame does";
@@ -319,11 +326,11 @@ static inline uint32_t sm_checked_node_header(const sm_numbers *numbers, const u
 }
 SM_CALL(1, 5, 7)
 static inline uint32_t sm_checked_node_new(sm_node *node, const uint8_t *header, size_t header_bytes, uint32_t general,
-                                           const uint8_t seed[32], uint32_t order, uint32_t *fault) {
+                                           sm_node *keys, uint32_t order, uint32_t *fault) {
     uint8_t none = 0;
     *fault = 0;
     if (sm_is_missing(header, header_bytes)) return SM_MISUSE;
-    return sm_node_new(node, header ? header : &none, header_bytes, general, seed, order, fault);
+    return sm_node_new(node, header ? header : &none, header_bytes, general, keys, order, fault);
 }
 SM_CALL(1, 5)
 static inline uint32_t sm_checked_node_send(sm_node *node, uint32_t to, uint8_t *room, size_t room_bytes,

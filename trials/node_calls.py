@@ -86,8 +86,15 @@ class Node:
         return self.fault.value
 
     def begin(self, header, general, seed, order=NO_ORDER):
-        """Makes the node, and tells the fault."""
-        return self.call("new", header, ctypes.c_size_t(len(header)), general, seed, order, faulty=True)
+        """Makes the node of keys of its own, and tells the fault."""
+        with Node(self.library) as keys:
+            keys.call("keys", seed, header[0], ctypes.create_string_buffer(32))
+            return self.make(header, general, keys, order)
+
+    def make(self, header, general, keys, order=NO_ORDER):
+        """Makes the node of keys, and tells the fault."""
+        ends = ctypes.byref(keys.place), order
+        return self.call("new", header, ctypes.c_size_t(len(header)), general, *ends, faulty=True)
 
     def hear(self, sender, data):
         """Hands in bytes, and tells the fault."""
@@ -146,7 +153,8 @@ def head_of(library, data):
 def root_of(library, seed, version):
     """The root of a seed."""
     root = ctypes.create_string_buffer(32)
-    same("sm_node_root", library.call("sm_node_root", seed, version, root), DONE)
+    with Node(library) as keys:
+        keys.call("keys", seed, version, root)
     return root.raw
 
 
@@ -217,19 +225,20 @@ class Run:
         """The bytes of a frame of this run."""
         return frame(run_id_of(self.header), number, sender, to, self.parcels.get((number, sender, to), ()))
 
-    def starting(self, library, general):
-        """A node of this run before the first round."""
+    def starting(self, library, general, keys=None):
+        """A node of this run before the first round, of these keys or of its own."""
         node = Node(library)
         order = self.order if general == 0 else NO_ORDER
-        same("the fault of a node", node.begin(self.header, general, seed_of(general), order), 0)
+        begin, given = (node.begin, seed_of(general)) if keys is None else (node.make, keys)
+        same("the fault of a node", begin(self.header, general, given, order), 0)
         return node
 
 
-def drive(library, of, general):
+def drive(library, of, general, keys=None):
     """Drives a node alone with the frames of a run. What it sends, keeps and decides has to be what the run has. The log, and how
     many bytes were sent."""
     near, sent = of.near(general), 0
-    with of.starting(library, general) as node:
+    with of.starting(library, general, keys) as node:
         for number in range(1, of.rounds + 1):
             node.call("begin_round")
             same("the round", node.number("round"), number)
@@ -257,6 +266,19 @@ def drive_all(library, of, generals=None):
 
 def try_pair(program, library):
     drive_all(library, Run(program, **PAIR))
+
+
+def try_slots(program, library):
+    """One set of keys for each node, which serves the runs of all slots. A node of the next slot may stand beside it."""
+    runs = [Run(program, **{**PAIR, "slot": slot}) for slot in range(4)]
+    for general in range(2):
+        with Node(library) as keys:
+            keys.call("keys", seed_of(general), 2, ctypes.create_string_buffer(32))
+            for of in runs[:2]:
+                drive(library, of, general, keys)
+            with runs[2].starting(library, general, keys) as node:
+                drive(library, runs[3], general, keys)
+                node.call("begin_round")
 
 
 def try_split(program, library):
@@ -430,6 +452,7 @@ def try_bundles(program, library):
 
 TRIALS = {
     "two in slot 2": try_pair,
+    "keys for all slots": try_slots,
     "two orders told": try_split,
     "chains of 15 signers": try_line,
     "15 neighbours, 16 rounds": try_largest,
@@ -454,7 +477,7 @@ def wrong_of(trial, program, library):
 def try_library(program, tally, library):
     for name, trial in TRIALS.items():
         tally.hold(name, with_little_stack(wrong_of, trial, program, library))
-    tally.count(28 + len(ANY_SEEDS) * len(ROOTS))
+    tally.count(29 + len(ANY_SEEDS) * len(ROOTS))
 
 
 def trials(program, tally):

@@ -33,8 +33,10 @@ BOTH = r"""
 int main(void) {
     const uint8_t seed[33] = SEED;
     uint8_t root[32], room[100];
+    sm_node keys = {0};
     size_t count;
-    if (sm_audit(seed, 0, room, sizeof room, &count) != SM_FAULT || sm_node_root(seed, 1, root) != SM_OK) return 1;
+    if (sm_audit(seed, 0, room, sizeof room, &count) != SM_FAULT || sm_node_keys(&keys, seed, 1, root) != SM_OK) return 1;
+    sm_node_free(&keys);
     for (int place = 0; place < 32; place++) printf("%02x", root[place]);
     printf("\n%.*s\n", (int)count, (const char *)room);
     return 0;
@@ -204,10 +206,16 @@ class Run:
         """The bytes of a header of the two, by the roots of their keys."""
         roots = b""
         for general in range(2):
-            root = ctypes.create_string_buffer(32)
-            self.want(DONE, "sm_node_root", seed_of(general), version, root)
-            roots += root.raw
+            keys, root = self.keys(seed_of(general), version)
+            self.library.call("sm_node_free", ctypes.byref(keys))
+            roots += root
         return self.header_of(DONE, (version, slot, 2, 0, 1, 2, 0), [(1, 0)], roots)
+
+    def keys(self, seed, version, status=DONE):
+        """Keys, and their root."""
+        place, root = ctypes.c_void_p(None), ctypes.create_string_buffer(b"\7" * 32, 32)
+        self.want(status, "sm_node_keys", ctypes.byref(place), seed, version, root)
+        return place, root.raw
 
     def header_of(self, status, of, edges, roots):
         """The bytes of a header, or none."""
@@ -243,13 +251,18 @@ class Run:
     def at(self, general):
         return ctypes.byref(self.nodes[general])
 
-    def begin(self, general, status=DONE, header=None, order=None, seed=None):
-        """A node is made, or not."""
+    def begin(self, general, status=DONE, header=None, order=None, seed=None, version=1):
+        """A node is made of keys of its own, or not."""
+        keys, _ = self.keys(seed_of(general) if seed is None else seed, version)
+        self.make(general, keys, status, header, order)
+        self.library.call("sm_node_free", ctypes.byref(keys))
+
+    def make(self, general, keys, status=DONE, header=None, order=None):
+        """A node is made of keys, or not."""
         given = self.header if header is None else header
         order = (1 if general == 0 else NO_ORDER) if order is None else order
-        seed = seed_of(general) if seed is None else seed
-        size = ctypes.c_size_t(len(given))
-        self.want(status, "sm_node_new", self.at(general), given, size, general, seed, order, ctypes.byref(self.fault))
+        ends = ctypes.byref(keys), order, ctypes.byref(self.fault)
+        self.want(status, "sm_node_new", self.at(general), given, ctypes.c_size_t(len(given)), general, *ends)
 
     def hear(self, to, given, status=DONE, sender=None):
         """Bytes are handed in as of the other."""
@@ -377,13 +390,44 @@ def nothing_there(two):
 def bad_beginnings(two):
     """Nodes that don't begin, with the fault, and one that stands already."""
     cases = [({"header": b""}, 9), ({"header": b"\3" + two.header[1:]}, 10), ({"header": two.header + b"\0"}, 12)]
-    cases += [({"order": NO_ORDER}, 13), ({"order": 2}, 13), ({"seed": seed_of(1)}, 14)]
+    cases += [({"order": NO_ORDER}, 13), ({"order": 2}, 13), ({"seed": seed_of(1)}, 14), ({"version": 2}, 16)]
     for words, fault in cases:
         two.begin(0, BAD, **words)
         two.told(fault)
     two.begin(0, MISUSE, order=16)
     two.begin(0)
     two.begin(0, MISUSE)
+
+
+def all_slots(two):
+    """One set of keys makes a node in each slot but those that are not above the last. It is no node, and no node is keys."""
+    headers, (keys, root) = [two.make_header(2, slot) for slot in range(4)], two.keys(seed_of(0), 2)
+    two.make(0, keys, BAD, headers[0], 2)
+    two.told(13)
+    for slot, fault in ((0, 0), (0, 17), (2, 0), (0, 17), (1, 17), (2, 17), (3, 0), (3, 17)):
+        two.make(0, keys, BAD if fault else DONE, headers[slot])
+        two.told(fault)
+        two.library.call("sm_node_free", two.at(0))
+    two.want(MISUSE, "sm_node_keys", ctypes.byref(keys), seed_of(0), 2, ctypes.create_string_buffer(32))
+    two.want(MISUSE, "sm_node_begin_round", ctypes.byref(keys))
+    two.want(MISUSE, "sm_node_finish", ctypes.byref(keys))
+    two.number(MISUSE, "sm_node_round", ctypes.byref(keys))
+    two.make(0, ctypes.c_void_p(None), MISUSE, headers[3])
+    two.library.call("sm_node_free", ctypes.byref(keys))
+    if root != headers[0][-64:-32]:
+        two.wrong.append("another root")
+    keys, _ = two.keys(seed_of(0), 1)
+    for fault in (0, 17):
+        two.make(0, keys, BAD if fault else DONE)
+        two.told(fault)
+        two.make(0, two.nodes[0], MISUSE, headers[3]) if fault else None
+        two.library.call("sm_node_free", two.at(0))
+    two.make(0, keys, BAD, headers[1])
+    two.told(16)
+    two.library.call("sm_node_free", ctypes.byref(keys))
+    for version in (0, 3, 2**32 - 1):
+        if two.keys(seed_of(0), version, MISUSE)[1] != b"\7" * 32:
+            two.wrong.append("the root of keys that are not there")
 
 
 def bad_rounds(two):
@@ -486,9 +530,7 @@ def plans(two):
 def misuse_wrong(library):
     """None where calls that may not be made answer so."""
     two = Run(library, False)
-    for name, version in (("sm_node_root", 0), ("sm_node_root", 3)):
-        two.want(MISUSE, name, seed_of(0), version, ctypes.create_string_buffer(32))
-    for step in (nothing_there, bad_beginnings, bad_rounds, bad_ends, bad_walks, plans):
+    for step in (nothing_there, all_slots, bad_beginnings, bad_rounds, bad_ends, bad_walks, plans):
         step(two)
     two.free()
     return "; ".join(two.wrong) or (None if library.blocks.value == 0 else f"{library.blocks.value} blocks are left")

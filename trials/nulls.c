@@ -93,10 +93,11 @@ static int answers(void) {
 /* So do the calls on headers, nodes and bundles. */
 static int nodes(void) {
     const uint8_t seed[SM_SEED_BYTES] = {0};
+    uint8_t root[SM_ROOT_BYTES];
     const sm_numbers numbers = {1, 0, 2, 0, 1, 2, 0};
     sm_numbers told = numbers;
     uint8_t id[SM_RUN_ID_BYTES] = {77};
-    sm_node node = {0};
+    sm_node node = {0}, keys = {0};
     sm_frame_head head = {{77}, 77, 77, 77, 77};
     sm_pair pair = {77, 77};
     uint32_t fault = 77, number = 77;
@@ -106,8 +107,10 @@ static int nodes(void) {
     WANT(sm_node_header(&numbers, NULL, 1, NULL, 0, NULL, 0, &count, &fault, &pair) == SM_MISUSE && fault == 0);
     WANT(sm_node_header(&numbers, NULL, 0, NULL, 1, NULL, 0, &count, &fault, &pair) == SM_MISUSE && fault == 0);
     WANT(sm_node_header(&numbers, NULL, 0, NULL, 0, NULL, 1, &count, &fault, &pair) == SM_MISUSE && fault == 0);
-    WANT(sm_node_new(&node, NULL, 0, 0, seed, 1, &fault) == SM_FAULT && fault == SM_H9);
-    WANT(sm_node_new(&node, NULL, 1, 0, seed, 1, &fault) == SM_MISUSE && fault == 0);
+    WANT(sm_node_keys(&keys, seed, 1, root) == SM_OK);
+    WANT(sm_node_new(&node, NULL, 0, 0, &keys, 1, &fault) == SM_FAULT && fault == SM_H9);
+    WANT(sm_node_new(&node, NULL, 1, 0, &keys, 1, &fault) == SM_MISUSE && fault == 0);
+    sm_node_free(&keys);
     WANT(sm_node_send(&node, 1, NULL, 0, &count) == SM_MISUSE && count == 0);
     WANT(sm_node_hear(&node, 1, NULL, 0, &fault) == SM_MISUSE && fault == 0);
     WANT(sm_node_log(&node, NULL, 0, &count) == SM_MISUSE && count == 0);
@@ -152,14 +155,11 @@ static int equal_roots(void) {
 
 /* No text is none of a verdict, and no decision, and the old names stand for the new ones. */
 static int names(void) {
-    const uint8_t seed[SM_SEED_BYTES] = {0};
-    uint8_t root[SM_ROOT_BYTES], same[SM_ROOT_BYTES];
     sm_judgement judgement;
     sm_run_decision decisions[SM_GENERALS_MOST];
     uint32_t number = 77, fault = 77;
     WANT(sm_read_judgement(NULL, 0, &judgement) == SM_FAULT);
     WANT(sm_read_decisions(NULL, 0, decisions, &number) == SM_OK && number == 0);
-    WANT(sm_root(seed, 1, root) == SM_OK && sm_node_root(seed, 1, same) == SM_OK && memcmp(root, same, sizeof root) == 0);
     WANT(sm_rounds(NULL, 1, &number, &fault) == SM_MISUSE && sm_fault_text(SM_F1) == sm_node_fault_text(SM_F1));
     return 0;
 }

@@ -18,7 +18,7 @@ enum { GENERALS = SM_GENERALS_MOST, NOBODY = GENERALS, LATE = 3 };
 struct general {
     const char *folder;
     uint8_t run_id[SM_RUN_ID_BYTES];
-    uint32_t me, neighbours, heard;
+    uint32_t version, me, neighbours, heard;
     int rounds, round;
     int64_t start, length;
     size_t longest;

@@ -21,7 +21,6 @@ pub mod laws;
 mod node_ends;
 mod node_fault;
 mod nodes;
-mod roots;
 mod stages;
 
 pub use bundles::make_bundle;
@@ -31,4 +30,3 @@ pub use frames::{FrameFront, FrameHead, WireFrame};
 pub use node_ends::NodeEnd;
 pub use node_fault::NodeFault;
 pub use nodes::Node;
-pub use roots::root_of;

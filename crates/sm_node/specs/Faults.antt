@@ -11,7 +11,7 @@ use Rattle.sm_node.specs.declared.faults.MakingFault.{MakingFault}
 use Rattle.sm_node.specs.declared.faults.MakingFault.TheVariants.{Broken, EqualRoots}
 use Rattle.sm_node.specs.declared.faults.SmPair.{SmPair}
 use Rattle.sm_node.specs.declared.faults.StartFault.{StartFault}
-use Rattle.sm_node.specs.declared.faults.StartFault.TheVariants.{Header, NoGeneral, OtherRoot}
+use Rattle.sm_node.specs.declared.faults.StartFault.TheVariants.{Header, NoGeneral, OtherRoot, OtherVersion, UsedSlot}
 use Rattle.sm_node.specs.declared.faults.GatherFault.{GatherFault}
 use Rattle.sm_node.specs.declared.faults.GatherFault.TheVariants as gathering
 
@@ -37,11 +37,13 @@ abbrev pub making_pair : MakingFault → SmPair
 making_pair (Broken f) = no_pair
 making_pair (EqualRoots a b) = pair_of a b
 
--- the number of a fault of a start: that of the header's bytes, 13 or 14
+-- the number of a fault of a start: that of the header's bytes, 13, 14, 16 or 17
 abbrev pub start_number : StartFault → ℕ
 start_number (Header f) = bytes_number f
 start_number NoGeneral = 13
 start_number OtherRoot = 14
+start_number OtherVersion = 16
+start_number UsedSlot = 17
 
 -- the number of a frame's fault: 21 to 28, which is 20 more than its text has
 abbrev pub frame_number : FrameFault → ℕ

@@ -48,15 +48,19 @@ pub(crate) const NO_PAIR: SmPair = SmPair {
     second: 0,
 };
 
-/// Why there is no node of a header's bytes, a general, its order and its seed.
+/// Why there is no node of a header's bytes, a general, its order and its keys.
 #[derive(Clone, Copy, Debug, PartialEq, Eq)]
 pub enum StartFault {
     /// The bytes of the header have this fault.
     Header(BytesFault),
     /// The number is none of the header's generals, or the order doesn't fit the general.
     NoGeneral,
-    /// The root of the general's keys is not the root that the header has for it.
+    /// The root of the keys is not the root that the header has for the general.
     OtherRoot,
+    /// The keys are of another version than the header.
+    OtherVersion,
+    /// A node was made of the keys in the header's slot or in a later one.
+    UsedSlot,
 }
 
 /// Why there is no bundle of a header's bytes, the generals that are held for faulty, and logs. A pair is the least of
@@ -116,7 +120,7 @@ impl MakingFault {
 }
 
 impl StartFault {
-    /// Returns the number of the fault, 1 to 14.
+    /// Returns the number of the fault: 1 to 14, 16 or 17.
     pub(crate) fn number(self) -> u32
         ensures { result ≡ numbers.start_number self }
     {
@@ -124,6 +128,8 @@ impl StartFault {
             StartFault::Header(inner) => bytes_number(inner),
             StartFault::NoGeneral => 13,
             StartFault::OtherRoot => 14,
+            StartFault::OtherVersion => 16,
+            StartFault::UsedSlot => 17,
         }
     }
 }

@@ -28,8 +28,9 @@ pub(crate) fn tell_head(bytes: &[u8], head: &mut SmFrameHead, fault: &mut u32) -
     *fault = 0;
     match read_frame_head(bytes) {
         Ok(found) => {
+            let run_id = found.front.run_id;
             *head = SmFrameHead {
-                run_id: found.front.run_id,
+                run_id,
                 round: u32::from(found.front.round),
                 sender: u32::from(found.front.from),
                 receiver: u32::from(found.front.to),

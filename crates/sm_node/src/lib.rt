@@ -1,7 +1,7 @@
 //! The library of nodes for C: one general of a run, driven by a program in another language.
 //!
-//! A node is opaque to the caller: one pointer, which is null if there is no node. Each function returns one of these
-//! numbers.
+//! A node is opaque to the caller: one pointer, which is null if there is no node. So are the keys that nodes are made of.
+//! Each function returns one of these numbers.
 //!
 //! | number | what it says |
 //! |---|---|
@@ -23,7 +23,7 @@ ghost use Rattle.sm_node.specs.Handing.{IsUntouched};
 ghost use Rattle.sm_node.specs.Headers.{header_given, MakesHeader};
 ghost use Rattle.sm_node.specs.Heads.{TellsHead};
 ghost use Rattle.sm_node.specs.Plans.{TellsMost, TellsNeighbours, TellsNumbers, TellsRounds, TellsRunId};
-ghost use Rattle.sm_node.specs.Starting.{Starts, WritesRoot};
+ghost use Rattle.sm_node.specs.Starting.{MakesKeys, Starts};
 ghost use Rattle.sm_node.specs.NodeReply.{IsTold};
 
 mod asking;
@@ -46,24 +46,26 @@ use crate::headers::{SmNumbers, make_header};
 use crate::heads::{SmFrameHead, tell_head};
 use crate::opaque::SmNode;
 use crate::plans::{numbers_of, with_header};
-use crate::starting::{NUMBERS, start, write_root};
+use crate::starting::{NUMBERS, make_keys, start};
 use crate::told::MISUSE;
 use gen_net::Header;
 use gen_plan::frame_most;
 use gen_types::GeneralNo;
 use std::alloc::Global;
 
-/// Writes the root of the tree of keys that a seed makes, for headers of version 1 or 2. Any other version is misuse.
+/// Makes the keys of a seed, for headers of version 1 or 2, in a place that holds nothing, and writes their root. Any
+/// other version is misuse.
 #[unsafe(no_mangle)]
-pub extern "C" fn sm_node_root(
+pub extern "C" fn sm_node_keys(
     alloc: Global,
+    keys: &mut SmNode,
     seed: &[u8; 32],
     version: u32,
     root: &mut [u8; 32],
 ) -> u32
-    ensures { IsTold (WritesRoot seed.now version root.old root.new) result }
+    ensures { IsTold (MakesKeys seed.now version keys.old.held keys.new.held root.old root.new) result }
 {
-    write_root(alloc, seed, version, root).status()
+    make_keys(alloc, keys, seed, version, root).status()
 }
 
 /// Hands out the bytes of the header of these numbers, edges and roots. The edges come in any order and direction, the
@@ -85,21 +87,23 @@ pub extern "C" fn sm_node_header(
     make_header(alloc, numbers, edges, roots, room, count, fault, equal).status()
 }
 
-/// Makes a node of a header's bytes, a general, its seed and its order, in a place that holds no node; 255 says that
-/// the general has no order. It is misuse if the place holds a node, or if a number is no general's or no order's.
+/// Makes a node of a header's bytes, a general, its keys and its order, in a place that holds nothing; 255 says that the
+/// general has no order. It is misuse if the place holds something, if there are no keys, or if a number is no general's
+/// or no order's. The keys then serve later slots alone.
 #[unsafe(no_mangle)]
 pub extern "C" fn sm_node_new(
     alloc: Global,
     node: &mut SmNode,
     header: &[u8],
     general: u32,
-    seed: &[u8; 32],
+    keys: &mut SmNode,
     own: u32,
     fault: &mut u32,
 ) -> u32
-    ensures { IsTold (Starts header.now general seed.now own node.old.held node.new.held fault.new) result }
+    ensures { IsTold (Starts header.now general own keys.old.held keys.new.held
+        node.old.held node.new.held fault.new) result }
 {
-    start(alloc, node, header, general, seed, own, fault).status()
+    start(alloc, node, header, general, keys, own, fault).status()
 }
 
 /// Begins the next round. If memory is refused, a further call goes on with it.
@@ -203,7 +207,7 @@ pub extern "C" fn sm_node_order(alloc: Global, node: &mut SmNode, decided: &mut 
         .status()
 }
 
-/// Frees what a node holds, at any time, so that there is no node. An open ring of keys is closed.
+/// Frees what a node holds, or keys, at any time, so that nothing is held. An open ring of keys is closed.
 #[unsafe(no_mangle)]
 pub extern "C" fn sm_node_free(alloc: Global, node: &mut SmNode)
     ensures { node.new.held ≡ None }

@@ -8,7 +8,7 @@ import unittest
 import warnings
 
 import vamuretu
-from vamuretu import EqualRoots, FrameHead, InputFault, Misuse, Node, NodeFault, NoWalk
+from vamuretu import EqualRoots, FrameHead, InputFault, Keys, Misuse, Node, NodeFault, NoWalk
 
 from .support import ALL, RING, answer, drive, exhibits_of, needs, seed_of
 
@@ -133,6 +133,24 @@ class Calls(unittest.TestCase):
         self.assertEqual(fault_of(hear, 0, frame), NodeFault.F2)
         for sender in (16, 1 << 32, -1):
             self.assertRaises(Misuse, hear, sender, frame)
+
+    def test_keys(self):
+        headers = [RING._replace(slot=slot).header() for slot in (0, 1, 3)]
+        with Keys(seed_of(1), 2) as keys:
+            self.assertEqual(keys.root, headers[0].roots[1])
+            for header, name in zip([*headers[1:], *headers], [None, None, "USED_SLOT", "USED_SLOT", "USED_SLOT"]):
+                with self.subTest(header.slot):
+                    if name is None:
+                        Node(header, 1, keys).close()
+                    else:
+                        self.assertEqual(fault_of(Node, header, 1, keys), NodeFault[name])
+        self.assertRaises(Misuse, Node, headers[0], 1, keys)
+        with Keys(seed_of(1), 1) as keys:
+            self.assertEqual(fault_of(Node, headers[0], 1, keys), NodeFault.OTHER_VERSION)
+            Node(self.header, 1, keys).close()
+            self.assertRaises(TypeError, copy.copy, keys)
+        with self.assertWarns(ResourceWarning):
+            Keys(seed_of(1), 1)
 
     def test_heads(self):
         for node in self.nodes:

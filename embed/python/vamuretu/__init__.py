@@ -5,11 +5,11 @@ says where they are looked for, and docs/EMBED.md of the sources what each call 
 """
 
 from ._faults import EqualRoots, InputFault, LibraryMissing, Misuse, NodeFault, NoWalk, OtherRun
-from ._headers import Header, header, read_header, root
+from ._headers import Header, header, read_header
 from ._jobs import Evidence, accuse, audit, audit_json, decide, decide_json, draw, evidence, evidence_json, explain
 from ._jobs import plan, refute, run_ids, show, show_json, words
 from ._libraries import use_libraries, version
-from ._nodes import FrameHead, Node, bundle, frame_head
+from ._nodes import FrameHead, Keys, Node, bundle, frame_head, root
 from ._texts import (
     AcrossConviction,
     CampaignVerdict,
@@ -36,6 +36,7 @@ __all__ = [
     "Header",
     "InputFault",
     "Judgement",
+    "Keys",
     "Kind",
     "LibraryMissing",
     "Misuse",

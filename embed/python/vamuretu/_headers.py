@@ -99,17 +99,6 @@ def made(name: str, words: Sequence[object], room: int) -> bytes:
     return data
 
 
-def root(seed: Bytes, version: int) -> bytes:
-    """The root of the keys that a seed makes, for headers of version 1 or 2. Misuse for another version.
-
-    A seed is 32 secret bytes, as of secrets.token_bytes(32).
-    """
-    made_root = ctypes.create_string_buffer(ROOT_BYTES)
-    function = library(NODES).sm_node_root
-    must(function(exactly(32, seed, "a seed"), number(version, 1 << 32, "version"), made_root), "sm_node_root")
-    return made_root.raw
-
-
 def header(
     *,
     version: int,

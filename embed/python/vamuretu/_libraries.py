@@ -83,9 +83,9 @@ _ENDS: Dict[str, Dict[str, List[Any]]] = {
         "sm_version": [],
     },
     NODES: {
-        "sm_node_root": [c_char_p, c_uint32, c_char_p],
+        "sm_node_keys": _NODE + [c_char_p, c_uint32, c_char_p],
         "sm_node_header": [POINTER(Numbers)] + _READ + _READ + _WRITTEN + _FAULT + [POINTER(Pair)],
-        "sm_node_new": _NODE + _READ + [c_uint32, c_char_p, c_uint32] + _FAULT,
+        "sm_node_new": _NODE + _READ + [c_uint32] + _NODE + [c_uint32] + _FAULT,
         "sm_node_begin_round": _NODE,
         "sm_node_send": _NODE + [c_uint32] + _WRITTEN,
         "sm_node_hear": _NODE + [c_uint32] + _READ + _FAULT,

@@ -25,6 +25,6 @@ pub use header::{Header, Numbers, Root, Seed, Version};
 pub use jobs::{accuse, accuse_known, accuse_known_of, accuse_of, audit, audit_json, audit_of, decide, decide_json};
 pub use jobs::{decisions, draw, draw_of, evidence, evidence_json, evidence_of, explain, judge, refute, run_ids, show};
 pub use jobs::{plan, show_json, show_of, version, versions_match, words, Answer, RunId};
-pub use node::{Bundle, FrameHead, Node};
+pub use node::{Bundle, FrameHead, Keys, Node};
 pub use texts::{read_decisions, Across, Conviction, Decision, Finding, Judgement, RunDecision, Said};
 pub use texts::{Verdict, Verdicts};

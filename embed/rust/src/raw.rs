@@ -13,7 +13,7 @@ pub const OTHER: u32 = 7;
 /// In place of an order: the node has none.
 pub const NO_ORDER: u32 = 255;
 
-/// `sm_node`. It holds no node if it is null.
+/// `sm_node`. It holds neither a node nor keys if it is null.
 #[repr(C)]
 pub struct SmNode {
     pub at: *mut c_void,
@@ -141,7 +141,7 @@ extern "C" {
     pub fn sm_answer_free(answer: *mut SmAnswer);
     pub fn sm_version() -> u32;
 
-    pub fn sm_node_root(seed: *const u8, version: u32, root: *mut u8) -> u32;
+    pub fn sm_node_keys(keys: *mut SmNode, seed: *const u8, version: u32, root: *mut u8) -> u32;
     pub fn sm_node_header(
         numbers: *const SmNumbers,
         edges: *const u8,
@@ -159,7 +159,7 @@ extern "C" {
         header: *const u8,
         header_bytes: usize,
         general: u32,
-        seed: *const u8,
+        keys: *mut SmNode,
         order: u32,
         fault: *mut u32,
     ) -> u32;

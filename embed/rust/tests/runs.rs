@@ -4,7 +4,7 @@
 //! part. `trials/bindings.py` makes it by the program. Without it the runs are judged alone.
 
 use std::collections::BTreeMap;
-use vamuretu::{audit, run_ids, Bundle, Fault, FrameHead, Header, Node, NodeFault, Numbers, Root, Seed, Version};
+use vamuretu::{audit, run_ids, Bundle, Fault, FrameHead, Header, Keys, Node, NodeFault, Numbers, Root, Seed, Version};
 
 /// The seeds of the nodes (generals) of a scenario whose seed is zero (docs/FORMATS.md).
 const SEEDS: [&str; 4] = [
@@ -117,6 +117,20 @@ fn headers() {
     }
     let shared = [roots[0], roots[1], roots[1]];
     assert_eq!(Header::new(&line, &[(0, 1), (1, 2)], &shared), Err(Fault::EqualRoots(1, 2)));
+}
+
+#[test]
+fn keys() {
+    let header = |slot| header_of(&Numbers { version: Version::Two, slot, ..NUMBERS }, &ALL);
+    let mut keys = Keys::new(&seed_of(1), Version::Two).expect("keys");
+    assert_eq!(Root::of(&seed_of(1), Version::Two), Ok(keys.root()));
+    for (slot, fault) in [(1, None), (3, None), (0, Some(NodeFault::UsedSlot)), (3, Some(NodeFault::UsedSlot))] {
+        assert_eq!(Node::of_keys(&header(slot), 1, &mut keys, None).err(), fault.map(Fault::Node));
+    }
+    let mut other = Keys::new(&seed_of(1), Version::One).expect("keys");
+    let told = Node::of_keys(&header(0), 1, &mut other, None).err();
+    assert_eq!(told, Some(Fault::Node(NodeFault::OtherVersion)));
+    assert!(Node::of_keys(&header_of(&NUMBERS, &ALL), 1, &mut other, None).is_ok());
 }
 
 #[test]
