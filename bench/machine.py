@@ -4,7 +4,6 @@ its movers to the end, as a ratio to `run_world` of the same scenario.
 
 The program that is timed is bench/machine.txt, which is proved and built in a scratch copy of the repository.
 """
-import os
 import subprocess
 import tempfile
 
