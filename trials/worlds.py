@@ -76,7 +76,7 @@ EVERY, LOGS = 147_456, 500
 # How many bundles are drawn for a world of so many generals, beside others.
 PARTS = {2: 1, 3: 4, 4: 6, 5: 5, 6: 4}
 # Of so many bundles one is asked of the program too, and one of the reference. So many tuples are put together of one list's logs.
-TO_PROGRAM, TO_REFERENCE, PUT_TOGETHER = 20, 16, 100
+TO_PROGRAM, TO_REFERENCE, PUT_TOGETHER = 20, 50, 100
 ROOM, SHOWN = 1 << 20, 5
 
 
