@@ -6,7 +6,7 @@
 In each run all nodes are neighbours, and the one that is measured has the greatest number. Node 0 sends it every value in round
 1, and each other node sends it a chain of every value in each later round. So every chain counts that can. The frames are those
 of the logs of a run that PROGRAM makes. `rt lib` in crates/sm_node makes the archive before. For each run a line has the most
-bytes that were taken in `sm_node_new`, the most in the whole run, the bytes of the log and of all frames to the node, and the
+bytes that were taken in `sm_node_keys` and `sm_node_new`, the most in the whole run, the bytes of the log and of all frames to the node, and the
 least pool that sufficed, of pools that are larger by a fortieth each.
 """
 import collections
