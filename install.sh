@@ -41,17 +41,6 @@ put() {
     printf '%s\n' "$2" >>"$list" || fail "$list can't be written"
 }
 
-# Whether this processor has the instructions of the level x86-64-v3, AVX2 among them.
-has_level_3() {
-    flags=$(grep -m 1 '^flags' /proc/cpuinfo 2>/dev/null)
-    for flag in avx2 bmi1 bmi2 fma f16c movbe; do
-        case " $flags " in
-        *" $flag "*) ;;
-        *) return 1 ;;
-        esac
-    done
-}
-
 # Puts the program for this processor, as bin/sm_tool.
 put_program() {
     if [ -f "$here/bin/sm_tool-v3" ] && has_level_3; then
@@ -111,6 +100,7 @@ for word; do
 done
 root=$destdir$prefix
 list=$root/share/vamuretu/files
+. "$here/tools/level_3.sh"
 
 if [ "$work" = uninstall ]; then
     remove_all

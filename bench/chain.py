@@ -40,7 +40,8 @@ def told(crates, seconds):
     """The line."""
     taken, names = longest(crates, seconds)
     every = seconds["all", "all"]
-    lacking = [name for name in crates if (name, "proof") not in seconds]
+    kept = {name for name, _ in seconds}
+    lacking = [name for name in crates if name not in kept]
     without = f"; without {', '.join(lacking)}, of which no seconds are kept" if lacking else ""
     share = f"{taken / 60:.0f} of {every / 60:.0f} processor minutes, {100 * taken / every:.0f} in 100"
     return f"the longest chain of the gate takes {share}{without}: {' '.join(names)}"

@@ -4,14 +4,14 @@
     python3 bench/gate.py run [FILE]      at the top of the repository, with the kit's rt on the path
     python3 bench/gate.py table [FILE]    prints the table of what a run kept
 
-The gate runs in this process, takes nothing from earlier runs, and its last line is its own. FILE, which is bench/gate.csv where none is named, then
-has a row for each crate and step: the step is `proof`, `tests` (which prove the crate again, and run) or `edits` (all of the
-crate's must-fail edits, with the check that they begin with and the one that they end with), and its seconds are processor
-seconds, user and system. They are those that the system counted for each program that the gate started, so other work on the
-machine changes them little. The row `toolchain` has what the gate's own process took, and the row `all` the whole, once as
-processor seconds and once, as the step `wall`, as seconds of wall time. Each row has the kit, the number of cores, the date and
-the commit. The sources have to be those of the commit, and a file without a commit is none of these: it is refused. How a step is told from another depends on the kit, so other kits than
-those that this was tried with are refused.
+The gate runs in this process, takes nothing from earlier runs, and its last line is its own. FILE, which is bench/gate.csv
+where none is named, then has a row for each crate and step: the step is `proof`, `tests` (which prove the crate again, and run)
+or `edits` (all of the crate's must-fail edits, with the check that they begin with and the one that they end with). Its seconds
+are processor seconds, user and system. They are those that the system counted for each program that the gate started, so other
+work on the machine changes them little. The row `toolchain` has what the gate's own process took, and the row `all` the whole,
+once as processor seconds and once, as the step `wall`, as seconds of wall time. Each row has the kit, the number of cores, the
+date and the commit. The sources have to be those of the commit, and a file without a commit is refused. How a step is told from
+another depends on the kit, so other kits than those that this was tried with are refused.
 """
 import collections
 import csv

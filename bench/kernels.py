@@ -79,6 +79,17 @@ def built(scratch, source, crates, stands_on, proofs=()):
     return os.path.join(speed, "out", "speed")
 
 
+def built_unread(scratch, *given):
+    """The same of a program that refuses to be run without an input, as building runs it once."""
+    try:
+        return built(scratch, *given)
+    except subprocess.CalledProcessError:
+        program = os.path.join(scratch, "crates", "speed", "out", "speed")
+        if not os.path.exists(program):
+            raise
+        return program
+
+
 def rebuilt(program, level):
     """The same program, built for processors of this level."""
     speed = os.path.dirname(os.path.dirname(program))

@@ -4,27 +4,15 @@ its movers to the end, as a ratio to `run_world` of the same scenario.
 
 The program that is timed is bench/machine.txt, which is proved and built in a scratch copy of the repository.
 """
-import os
 import subprocess
 import tempfile
 
 from audit import all_crates
-from kernels import built
+from kernels import built_unread
 from signed import signed
 
 MACHINE_ON = "gen_report gen_async gen_world gen_log anyhow"
 RUNS = 5
-
-
-def machine_program(scratch):
-    """The program, built. Building runs it once, without a scenario, which it refuses."""
-    try:
-        return built(scratch, "machine.txt", all_crates(), MACHINE_ON)
-    except subprocess.CalledProcessError:
-        program = os.path.join(scratch, "crates", "speed", "out", "speed")
-        if not os.path.exists(program):
-            raise
-        return program
 
 
 def main():
@@ -32,7 +20,7 @@ def main():
     text = signed(16, everybody, 8, 8, 15, 14)
     times = {}
     with tempfile.TemporaryDirectory() as scratch:
-        program = machine_program(scratch)
+        program = built_unread(scratch, "machine.txt", all_crates(), MACHINE_ON)
         for _ in range(RUNS):
             printed = subprocess.run([program], input=text, check=True, capture_output=True).stdout.decode()
             for name, taken in (line.split() for line in printed.splitlines()):

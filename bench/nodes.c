@@ -3,26 +3,17 @@
        nodes TRAITORS
 
    The commander's order goes round in TRAITORS + 1 rounds, and nobody is a traitor. For general 1 it prints the
-   nanoseconds that his calls take by kind, those of one sm_node_root, the bytes of his frames in and out and of his log,
+   nanoseconds that his calls take by kind, those of one sm_node_keys, the bytes of his frames in and out and of his log,
    and
    the most bytes that he held at once. In place of embed/heap.c stands a heap that counts for whom it is. */
+#include "sm_heap.h"
 #include "sm_node.h"
-#include <stdbool.h>
 #include <stdio.h>
 #include <stdlib.h>
 #include <string.h>
 #include <time.h>
 
 enum { GENERALS = 16, WATCHED = 1, MOST_BYTES = 4000000 };
-
-struct sm_block {
-    bool ok;
-    uint8_t *at;
-};
-
-struct sm_block rattle_alloc(size_t bytes, size_t align);
-struct sm_block rattle_realloc(uint8_t *at, size_t kept, size_t bytes, size_t align);
-void rattle_dealloc(uint8_t *at);
 
 /* Whose call runs, and what the watched one holds and held at most. A block has its length and its owner before it. */
 static uint32_t caller;
@@ -85,24 +76,25 @@ static int64_t now(void) {
         if (status != SM_OK) exit(3);                  \
     } while (0)
 
-static sm_node nodes[GENERALS];
+static sm_node nodes[GENERALS], keys[GENERALS];
 static uint8_t seeds[GENERALS][32], header[2000], room[MOST_BYTES];
 static size_t header_bytes;
 
-/* The header of all, and the time of one root. */
+/* The keys and the header of all, and the time of one tree of keys. */
 static void make_header(uint8_t traitors) {
     uint8_t roots[GENERALS * 32], edges[240];
     size_t edge = 0;
     uint32_t fault;
+    sm_pair equal;
     for (int a = 0; a < GENERALS; a++) {
         seeds[a][0] = (uint8_t)a;
         int64_t since = now();
-        if (sm_node_root(seeds[a], 1, roots + 32 * a) != SM_OK) exit(3);
+        if (sm_node_keys(&keys[a], seeds[a], 1, roots + 32 * a) != SM_OK) exit(3);
         if (a == 0) printf("root %lld\n", (long long)(now() - since));
         for (int b = a + 1; b < GENERALS; b++) edges[edge++] = (uint8_t)a, edges[edge++] = (uint8_t)b;
     }
     sm_numbers numbers = {1, 0, GENERALS, traitors, 1, 2, 0};
-    if (sm_node_header(&numbers, edges, edge / 2, roots, GENERALS, header, sizeof header, &header_bytes, &fault) != SM_OK)
+    if (sm_node_header(&numbers, edges, edge / 2, roots, GENERALS, header, sizeof header, &header_bytes, &fault, &equal))
         exit(3);
 }
 
@@ -127,7 +119,7 @@ int main(int words_count, char **words) {
     caller = GENERALS;
     make_header(traitors);
     for (uint32_t g = 0; g < GENERALS; g++)
-        CALL(NEW, g, sm_node_new(&nodes[g], header, header_bytes, g, seeds[g], g == 0 ? 1 : SM_NO_ORDER, &fault));
+        CALL(NEW, g, sm_node_new(&nodes[g], header, header_bytes, g, &keys[g], g == 0 ? 1 : SM_NO_ORDER, &fault));
     for (int round = 1; round <= traitors + 1; round++) {
         for (uint32_t g = 0; g < GENERALS; g++) CALL(BEGIN, g, sm_node_begin_round(&nodes[g]));
         exchange();
@@ -137,6 +129,6 @@ int main(int words_count, char **words) {
     if (sm_node_log(&nodes[WATCHED], room, MOST_BYTES, &log) != SM_OK) exit(3);
     for (int kind = 0; kind < KINDS; kind++) printf("%s %lld\n", names[kind], (long long)times[kind]);
     printf("in %zu\nout %zu\nlog %zu\nmost %zu\n", bytes_in, bytes_out, log, most);
-    for (uint32_t g = 0; g < GENERALS; g++) sm_node_free(&nodes[g]);
+    for (uint32_t g = 0; g < GENERALS; g++) sm_node_free(&nodes[g]), sm_node_free(&keys[g]);
     return 0;
 }

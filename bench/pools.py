@@ -19,12 +19,13 @@ import tempfile
 TOP = os.path.dirname(os.path.dirname(os.path.abspath(__file__)))
 sys.path.insert(0, os.path.join(TOP, "trials"))
 
-from layout import MARK, Bundle, Log  # noqa: E402
-from node_calls import RECV, Node, Run, Wrong, chain_in  # noqa: E402
+from layout import MARK, Bundle  # noqa: E402
+from node_calls import Node, Run, Wrong  # noqa: E402
 from nodes import NO_ORDER  # noqa: E402
 from processes import ARCHIVE, seed_of  # noqa: E402
 from programs import run  # noqa: E402
 from scenarios import everybody, scenario  # noqa: E402
+from model.log import Recv, read_log  # noqa: E402
 
 # Generals, orders, m, d and the slot of each run.
 RUNS = [(4, 2, 1, 1, None), (4, 2, 1, 1, 0), (4, 2, 2, 1, None), (7, 2, 2, 1, None), (16, 2, 1, 1, None), (16, 2, 5, 1, None)]
@@ -70,10 +71,9 @@ class Heard(Run):
         bundle = Bundle(run(program, ["run"], text).wrote)
         self.header, self.ways = bundle.front[MARK:], [*edges, *((b, a) for a, b in edges)]
         self.parcels = collections.defaultdict(list)
-        for entry in Log(dict(bundle.exhibits)[generals - 1], bundle.version).entries:
-            if entry[0] == RECV:
-                _, path, parcel = chain_in(entry, bundle.version)
-                self.parcels[len(path), path[-1], generals - 1].append(parcel)
+        for entry in read_log(dict(bundle.exhibits)[generals - 1], bundle.header).entries:
+            if isinstance(entry, Recv):
+                self.parcels[len(entry.chain.path), entry.chain.path[-1], generals - 1].append(entry.chain.spell())
 
 
 def drive(pool, of, me):

@@ -10,23 +10,12 @@ import subprocess
 import tempfile
 
 from audit import all_crates
-from kernels import KEY_CRATES, KEYS_ON, built, least
+from kernels import KEY_CRATES, KEYS_ON, built, built_unread, least
 from signed import signed
 
 REPORTS_ON = "gen_report gen_local gen_world gen_log gen_chain gen_net anyhow"
 MEASURE = ("+report_each/Invariants.antt", "reports_measure.txt")
 RUNS = 5
-
-
-def reports_program(scratch):
-    """The program, built. Building runs it once, without a scenario, which it refuses."""
-    try:
-        return built(scratch, "reports.txt", all_crates(), REPORTS_ON, [MEASURE])
-    except subprocess.CalledProcessError:
-        program = os.path.join(scratch, "crates", "speed", "out", "speed")
-        if not os.path.exists(program):
-            raise
-        return program
 
 
 def main():
@@ -38,7 +27,7 @@ def main():
         keys = built(keys, "keys.txt", KEY_CRATES, KEYS_ON)
         logs = os.path.join(scratch, "logs")
         os.mkdir(logs)
-        program = reports_program(logs)
+        program = built_unread(logs, "reports.txt", all_crates(), REPORTS_ON, [MEASURE])
         found = {}
         for _ in range(RUNS):
             printed = subprocess.run([program], input=text, check=True, capture_output=True).stdout.decode()

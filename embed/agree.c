@@ -45,20 +45,24 @@ static void make_nodes(struct run *run) {
     static const uint8_t edges[2 * EDGES] = {0, 1, 0, 2, 0, 3, 1, 2, 1, 3, 2, 3};
     uint8_t seeds[NODES][SM_SEED_BYTES], roots[NODES * SM_ROOT_BYTES];
     uint32_t fault = 0, status;
+    sm_node keys[NODES] = {{0}};
     sm_pair equal;
     /* A seed serves one run, so put on the disk that it is used. */
     if (getrandom(seeds, sizeof seeds, 0) != (ssize_t)sizeof seeds) must("getrandom", SM_MEMORY, 0);
-    for (uint32_t me = 0; me < NODES; me++)
-        must("sm_node_root", sm_node_root(seeds[me], numbers.version, roots + me * SM_ROOT_BYTES), 0);
+    for (uint32_t me = 0; me < NODES; me++) {
+        status = sm_node_keys(&keys[me], seeds[me], numbers.version, roots + me * SM_ROOT_BYTES);
+        must("sm_node_keys", status, 0);
+    }
+    explicit_bzero(seeds, sizeof seeds);
     status = sm_node_header(&numbers, edges, EDGES, roots, NODES, run->header, SM_HEADER_MOST, &run->header_bytes,
                             &fault, &equal);
     must("sm_node_header", status, fault);
     for (uint32_t me = 0; me < NODES; me++) {
         uint32_t order = me == 0 ? VALUE : SM_NO_ORDER;
-        status = sm_node_new(&run->node[me], run->header, run->header_bytes, me, seeds[me], order, &fault);
+        status = sm_node_new(&run->node[me], run->header, run->header_bytes, me, &keys[me], order, &fault);
         must("sm_node_new", status, fault);
+        sm_node_free(&keys[me]);
     }
-    explicit_bzero(seeds, sizeof seeds);
 }
 
 /* Hands the frame of one node to another: here stands your transport. */
@@ -105,11 +109,12 @@ static void play(struct run *run) {
 static uint8_t *make_bundle(const struct run *run, size_t *bundle_bytes) {
     size_t length;
     uint32_t fault = 0;
-    uint32_t status = sm_node_bundle(run->header, run->header_bytes, 0, run->log, NODES, run->logs, run->log_bytes,
-                                     NULL, 0, &length, &fault);
+    sm_pair apart;
+    uint32_t status = sm_node_bundle(run->header, run->header_bytes, 0, 0, run->log, NODES, run->logs, run->log_bytes,
+                                     NULL, 0, &length, &fault, &apart);
     uint8_t *bundle = room_for("sm_node_bundle", status, fault, NULL, length);
-    status = sm_node_bundle(run->header, run->header_bytes, 0, run->log, NODES, run->logs, run->log_bytes, bundle,
-                            length, bundle_bytes, &fault);
+    status = sm_node_bundle(run->header, run->header_bytes, 0, 0, run->log, NODES, run->logs, run->log_bytes, bundle,
+                            length, bundle_bytes, &fault, &apart);
     must("sm_node_bundle", status, fault);
     return bundle;
 }

@@ -11,10 +11,8 @@
    IDS are one to four run ids of 64 hexadecimal digits, with commas between them. `explain` reads the name from
    standard input, and `run-ids` writes the IDS of a file. The exit status is that of sm_tool, and so is the line of
    what failed. */
-#include "sm_embed.h"
+#include "answers.h"
 #include <stdbool.h>
-#include <stdio.h>
-#include <stdlib.h>
 #include <string.h>
 
 /* What the words ask for. */
@@ -24,28 +22,6 @@ struct job {
     uint8_t runs[SM_RUNS_MOST * SM_RUN_ID_BYTES];
     size_t run_count;
 };
-
-/* Some bytes on the heap. */
-struct bytes {
-    uint8_t *at;
-    size_t length;
-};
-
-/* All of standard input; null where memory was refused or a read failed. */
-static struct bytes read_all(void) {
-    struct bytes read = {malloc(4096), 0};
-    for (size_t room = 4096; read.at != NULL;) {
-        size_t more = fread(read.at + read.length, 1, room - read.length, stdin);
-        read.length += more;
-        if (more == 0) return read;
-        if (read.length < room) continue;
-        room *= 2;
-        uint8_t *longer = realloc(read.at, room);
-        if (longer == NULL) free(read.at);
-        read.at = longer;
-    }
-    return read;
-}
 
 /* The value of a hexadecimal digit, or -1. */
 static int digit(char it) {
@@ -121,21 +97,6 @@ static uint32_t call(const struct job *job, struct bytes input, sm_answer *answe
     if (strcmp(job->name, "words") == 0) return sm_words(input.at, input.length, answer);
     if (strcmp(job->name, "plan") == 0) return sm_plan(input.at, input.length, answer);
     return SM_MISUSE;
-}
-
-/* Says in a line on standard error what failed, and returns the exit status for it. */
-static int failed(int status, const char *line) {
-    fprintf(stderr, "%s\n", line);
-    return status;
-}
-
-/* The text that an answer holds; null where memory was refused. */
-static struct bytes text_of(sm_answer *answer) {
-    struct bytes text = {NULL, 0};
-    uint32_t status = sm_answer_text(answer, NULL, 0, &text.length);
-    text.at = malloc(text.length != 0 ? text.length : 1);
-    if (text.at != NULL && status == SM_LENGTH) status = sm_answer_text(answer, text.at, text.length, &text.length);
-    return text;
 }
 
 /* Writes what a call made where sm_tool writes it; returns the exit status. */

@@ -123,8 +123,8 @@ uint32_t sm_run_id(const uint8_t *input, size_t input_bytes, uint8_t *room, size
     SM_CALL(1, 3, 5);
 
 /* The verdict on a bundle or a campaign of the runs that are expected, as sm_tool audit --run. If strict is not 0, an
-   answer that says `explained` is a no too, as by --strict. Returns SM_OK, SM_NO, SM_MISUSE, SM_FAULT, SM_MEMORY or
-   SM_OTHER. */
+   answer that says `explained` is a no too, and so is one on two generals with the same root, as by --strict. Returns
+   SM_OK, SM_NO, SM_MISUSE, SM_FAULT, SM_MEMORY or SM_OTHER. */
 uint32_t sm_audit_of(const uint8_t *runs, size_t run_count, uint32_t strict, const uint8_t *input, size_t input_bytes,
                      sm_answer *answer) SM_CALL(1, 4, 6);
 
@@ -176,13 +176,15 @@ uint32_t sm_show(const uint8_t *input, size_t input_bytes, sm_answer *answer) SM
 
 /* What a file of the runs that are expected is, as sm_tool show --run, in a form: SM_JSON is a line for each object, as
    by --json. With run ids a file that is not whole is SM_OTHER too, as nothing says of which run it is. Without them any
-   file is shown in this form, and the answer is a no if the file is not whole. Returns SM_OK, SM_NO, SM_MISUSE, SM_MEMORY or SM_OTHER. */
+   file is shown in this form, and the answer is a no if the file is not whole. Returns SM_OK, SM_NO, SM_MISUSE, SM_MEMORY
+   or SM_OTHER. */
 uint32_t sm_show_as(const uint8_t *runs, size_t run_count, uint32_t form, const uint8_t *input, size_t input_bytes,
                     sm_answer *answer) SM_CALL(1, 4, 6);
 
 /* What a name means, as sm_tool explain: that of a fault, a finding, a kind of conviction, a verdict or a status, as
    `H3`, `N8`, `K2`, `agreed` or `status 1`, without a line feed. docs/WORDS.md has the names, and so has the answer to
-   an input of 0 bytes, a line each. The answer is a no of 0 bytes if and only if it is no such name. Returns SM_OK, SM_NO, SM_MISUSE or SM_MEMORY. */
+   an input of 0 bytes, a line each. The answer is a no of 0 bytes if and only if it is no such name. Returns SM_OK,
+   SM_NO, SM_MISUSE or SM_MEMORY. */
 uint32_t sm_explain(const uint8_t *input, size_t input_bytes, sm_answer *answer) SM_CALL(1, 3);
 
 /* A text with what each of its lines means behind the line, as sm_tool words: the text of an answer, or the line of a

@@ -5,9 +5,9 @@
    frames. A general is a node, and an order is a value.
 
    An sm_node is one pointer. The caller sets it to null before the first call, as by `sm_node node = {0};`, and does
-   not read or write it afterwards. Null means that there is no node: sm_node_new makes a node there, and sm_node_free
-   takes it away. An sm_node is never copied. No call keeps a pointer that it was handed: header, seed, frame and
-   logs may be changed or freed when the call has returned.
+   not read or write it afterwards. Null means that nothing is there. sm_node_keys makes the keys of a seed there, or
+   sm_node_new makes a node of keys, and sm_node_free takes away what is there. An sm_node is never copied. No call keeps
+   a pointer that it was handed: header, seed, keys, frame and logs may be changed or freed when the call has returned.
 
    In version 1, one seed makes one node ever, for one run. In version 2, one seed makes one node ever in each slot, for
    one run. A node on which sm_node_begin_round was never called has signed nothing. A second node of the seed and slot
@@ -46,7 +46,7 @@
    - At most PTRDIFF_MAX bytes are passed as one input or room.
    - Any thread may make a call on a node, but one call at a time. What orders two calls of different threads is a lock,
      the start or the end of a thread, or an atomic variable (memory_order_seq_cst). Threads may call at the same time
-     on nodes of their own, and make the calls that have no node.
+     on nodes and keys of their own, and make the calls that have none.
    - There is enough stack: 1 MiB was enough for each call that was tried, of up to 16 generals.
    - No call is made from a signal handler, nor in the forked child of a process with threads.
    - rattle_alloc, rattle_realloc and rattle_dealloc are those of heap.c, or keep the rules in its comment.
@@ -62,10 +62,7 @@ extern "C" {
 
 /* Old names, which the next version does not have. */
 #define sm_node_status sm_status
-#define sm_root sm_node_root
 #define sm_header sm_node_header
-#define sm_bundle sm_node_bundle
-#define sm_bundle_parted sm_node_bundle_parted
 #define sm_header_numbers sm_node_header_numbers
 #define sm_rounds sm_node_rounds
 #define sm_neighbours sm_node_neighbours
@@ -80,8 +77,10 @@ enum sm_node_fault {
     SM_H1 = 1, SM_H2, SM_H3, SM_H4, SM_H5, SM_H6, SM_H7, SM_H8, SM_H9, SM_H10, SM_H11, /* of a header */
     SM_LEFT_OVER = 12,  /* bytes are left over behind a header */
     SM_NO_GENERAL = 13, /* the number is none of the header's generals, or the order does not fit the general */
-    SM_OTHER_ROOT = 14, /* the header has another root for the general than that of the seed's keys */
+    SM_OTHER_ROOT = 14, /* the header has another root for the general than that of the keys */
     SM_EQUAL_ROOTS = 15, /* two generals have the same root */
+    SM_OTHER_VERSION = 16, /* the keys are of another version than the header */
+    SM_USED_SLOT = 17, /* a node was made of the keys in the slot of the header, or in a later one */
     SM_F1 = 21, SM_F2, SM_F3, SM_F4, SM_F5, SM_F6, SM_F7, SM_F8, /* of a frame */
     SM_U1 = 31, SM_U2,  /* two generals that are not held for faulty have no walk, or none of at most d edges */
     /* Of a bundle. Only SM_B4, SM_B7 and SM_B9 can come, as no bundle is read, and the library makes the walks. A fault
@@ -90,7 +89,7 @@ enum sm_node_fault {
     SM_LONG_LOG = 50    /* a log has 2^32 bytes or more */
 };
 
-/* A node: its content is the library's. */
+/* A node, or keys: the content is the library's. */
 typedef struct {
     void *at;
 } sm_node;
@@ -106,17 +105,25 @@ typedef struct {
     uint32_t first, second;
 } sm_pair;
 
+/* What the head of a frame says: the id of its run, its round, the sender, the receiver, and how many parcels follow. */
+typedef struct {
+    uint8_t run_id[32];
+    uint32_t round, sender, receiver, parcel_count;
+} sm_frame_head;
+
 /* The general that a log is said to be of, and how many bytes the log has. */
 typedef struct {
     uint32_t general;
     size_t bytes;
 } sm_log;
 
-/* Writes the root of the keys that a seed makes, for headers of version 1 or 2. SM_MISUSE if it is another version.
-   A seed is 32 secret random bytes of the system's generator, as getrandom gives them: whoever knows the seed can sign
-   as the general. The root is no secret. The library does not wipe what it makes of a seed, and the caller wipes the
-   seed. Returns SM_OK, SM_MISUSE or SM_MEMORY. */
-uint32_t sm_node_root(const uint8_t seed[32], uint32_t version, uint8_t root[32]) SM_CALL(1, 3);
+/* Makes the keys of a seed, for headers of version 1 or 2, and writes their root. It is SM_MISUSE if something is there
+   already, or if it is another version. Keys of version 1 serve one node. Keys of version 2 serve nodes in the four
+   slots, in ascending order of the slots, and may be freed when their last node is made. A seed is 32 secret random
+   bytes of the system's generator, as getrandom gives them: whoever knows the seed, or the keys, can sign as the
+   general. The root is no secret. The library does not wipe what it makes of a seed, and the caller wipes the seed.
+   Returns SM_OK, SM_MISUSE or SM_MEMORY. */
+uint32_t sm_node_keys(sm_node *keys, const uint8_t seed[32], uint32_t version, uint8_t root[32]) SM_CALL(1, 2, 4);
 
 /* Writes the bytes of the header of these numbers, edges and roots: at most 8 + 2 * edge_count + 32 * root_count. An
    edge is two bytes, and the edges come in any order and direction. A root is 32 bytes, and the roots come in the order
@@ -127,12 +134,14 @@ uint32_t sm_node_header(const sm_numbers *numbers, const uint8_t *edges, size_t 
                         size_t root_count, uint8_t *room, size_t room_bytes, size_t *count, uint32_t *fault,
                         sm_pair *equal) SM_CALL(1, 2, 4, 6, 8, 9, 10);
 
-/* Makes a node of a header's bytes, the number of a general, the general's seed, and the order if the general is the
-   commander, else SM_NO_ORDER. SM_MISUSE if a node is there already, the general is above 15, or the order is neither 0
-   to 15 nor SM_NO_ORDER. An order that is none of the header's is SM_NO_GENERAL, so 15 always is: the greatest that a
-   header can have is 14. Returns SM_OK, SM_MISUSE, SM_FAULT or SM_MEMORY. */
-uint32_t sm_node_new(sm_node *node, const uint8_t *header, size_t header_bytes, uint32_t general,
-                     const uint8_t seed[32], uint32_t order, uint32_t *fault) SM_CALL(1, 2, 5, 7);
+/* Makes a node of a header's bytes, the number of a general, the general's keys, and the order if the general is the
+   commander, else SM_NO_ORDER. The keys then serve later slots alone, so no two nodes of them sign with one key. Faults
+   of the header are reported first, then SM_USED_SLOT, SM_OTHER_VERSION, SM_NO_GENERAL and SM_OTHER_ROOT. SM_MISUSE if
+   something is there already, `keys` are no keys, the general is above 15, or the order is neither 0 to 15 nor
+   SM_NO_ORDER. An order that is none of the header's is SM_NO_GENERAL, so 15 always is: the greatest that a header can
+   have is 14. Returns SM_OK, SM_MISUSE, SM_FAULT or SM_MEMORY. */
+uint32_t sm_node_new(sm_node *node, const uint8_t *header, size_t header_bytes, uint32_t general, sm_node *keys,
+                     uint32_t order, uint32_t *fault) SM_CALL(1, 2, 5, 7);
 
 /* Begins the next round: the node signs what it has to sign in this round. SM_MISUSE if there is no node, a round is
    open, or the last round has ended.
@@ -176,26 +185,22 @@ uint32_t sm_node_log(sm_node *node, uint8_t *room, size_t room_bytes, size_t *co
    SM_OK or SM_MISUSE. */
 uint32_t sm_node_order(sm_node *node, uint32_t *order) SM_CALL(1, 2);
 
-/* Frees what is there, at any time. Then there is no node. A ring of keys that is open is closed. */
+/* Frees what is there, a node or keys, at any time. Then nothing is there. A ring of keys that is open is closed. */
 void sm_node_free(sm_node *node);
 
 /* Writes the bytes of the bundle of a run. The caller hands in the header's bytes, the set of the generals that are
    held for faulty, bit g for general g, and the logs that were collected, of all generals or of some. The library finds
    the walks between the other generals. There are at most 64 logs, and several may be of one general. They stand one
    after another in `bytes`, in ascending order of their generals. Their bytes may be anybody's, and sm_audit says what
-   they are. Faults of the header are reported first, then SM_U1 and SM_U2, then those of the bundle. SM_MISUSE if the
-   set has a general above 15, a general of a log is above 15, or the lengths of the logs do not add up to byte_count.
-   Returns SM_OK, SM_MISUSE, SM_FAULT, SM_MEMORY or SM_LENGTH. */
-uint32_t sm_node_bundle(const uint8_t *header, size_t header_bytes, uint32_t faulty, const sm_log *logs,
-                        size_t log_count, const uint8_t *bytes, size_t byte_count, uint8_t *room, size_t room_bytes,
-                        size_t *count, uint32_t *fault) SM_CALL(1, 4, 6, 8, 10, 11);
-
-/* Writes the bytes of a bundle, as sm_node_bundle, but there is no SM_U1 and no SM_U2: if two generals that are not held for
-   faulty have no walk of at most d edges, the bundle has no walks. The audit finds that, which is N10, and all else
-   that it finds in the logs. Returns SM_OK, SM_MISUSE, SM_FAULT, SM_MEMORY or SM_LENGTH. */
-uint32_t sm_node_bundle_parted(const uint8_t *header, size_t header_bytes, uint32_t faulty, const sm_log *logs,
-                               size_t log_count, const uint8_t *bytes, size_t byte_count, uint8_t *room,
-                               size_t room_bytes, size_t *count, uint32_t *fault) SM_CALL(1, 4, 6, 8, 10, 11);
+   they are. Faults of the header are reported first, then SM_U1 and SM_U2, then those of the bundle. At SM_U1 and SM_U2
+   *apart is the least pair of generals, not held for faulty, that have no walk of at most d edges, the lesser one first.
+   Otherwise it is 0 and 0. If `parted` is not 0, there is no SM_U1 and no SM_U2: the bundle then has no walks. The audit
+   finds that, which is N10, and all else that it finds in the logs. SM_MISUSE if the set has a general above 15, a
+   general of a log is above 15, or the lengths of the logs do not add up to byte_count. Returns SM_OK, SM_MISUSE,
+   SM_FAULT, SM_MEMORY or SM_LENGTH. */
+uint32_t sm_node_bundle(const uint8_t *header, size_t header_bytes, uint32_t faulty, uint32_t parted,
+                        const sm_log *logs, size_t log_count, const uint8_t *bytes, size_t byte_count, uint8_t *room,
+                        size_t room_bytes, size_t *count, uint32_t *fault, sm_pair *apart) SM_CALL(1, 5, 7, 9, 11, 12, 13);
 
 /* Reads the numbers of a header from its bytes. The slot of a header of version 1 is 0. The numbers stay as they were if
    it is not SM_OK. Returns SM_OK, SM_MISUSE, SM_FAULT or SM_MEMORY. */
@@ -216,6 +221,18 @@ uint32_t sm_node_neighbours(const uint8_t *header, size_t header_bytes, uint32_t
    A transport need not carry a longer one. *most is 0 if it is not SM_OK. Returns SM_OK, SM_MISUSE, SM_FAULT or
    SM_MEMORY. */
 uint32_t sm_node_frame_most(const uint8_t *header, size_t header_bytes, size_t *most, uint32_t *fault) SM_CALL(1, 3, 4);
+
+/* Tells the run id of this header: SHA-256 of the byte 0x31 and the header. It is what sm_run_id of sm_embed.h tells.
+   What was in run_id stays if it is not SM_OK. Returns SM_OK, SM_MISUSE, SM_FAULT or SM_MEMORY. */
+uint32_t sm_node_run_id(const uint8_t *header, size_t header_bytes, uint8_t run_id[32], uint32_t *fault)
+    SM_CALL(1, 3, 4);
+
+/* Reads the head of a frame, for a transport that keeps frames of later rounds. What follows the head is not looked at,
+   and no byte is anybody's word: sm_node_hear decides what is taken. *fault is SM_F3 if the bytes end before the head
+   does, and SM_F4 if they do not begin with the mark. What was in *head stays if it is not SM_OK. Returns SM_OK,
+   SM_MISUSE or SM_FAULT. */
+uint32_t sm_node_frame_head(const uint8_t *frame, size_t frame_bytes, sm_frame_head *head, uint32_t *fault)
+    SM_CALL(1, 3, 4);
 
 /* Tells the number of the round that began last, 0 before the first. A round that is half begun counts once the node
    has signed for it: so after SM_MEMORY of sm_node_begin_round it is the new round or the one before. SM_MISUSE if there
@@ -264,8 +281,10 @@ static inline const char *sm_node_fault_text(uint32_t fault) {
     case SM_H11: return "the slot is above 3";
     case SM_LEFT_OVER: return "bytes are left over behind the header";
     case SM_NO_GENERAL: return "the number is none of the header's generals, or the order does not fit the general";
-    case SM_OTHER_ROOT: return "the header has another root for the general than that of the seed's keys";
+    case SM_OTHER_ROOT: return "the header has another root for the general than that of the keys";
     case SM_EQUAL_ROOTS: return "two generals have the same root";
+    case SM_OTHER_VERSION: return "the keys are of another version than the header";
+    case SM_USED_SLOT: return "a node was made of the keys in the slot of the header, or in a later one";
     case SM_F1: return "no frame of this general is awaited";
     case SM_F2: return "the frame of this general was taken before";
     case SM_F3: return "the bytes end before the frame does";
@@ -307,11 +326,11 @@ static inline uint32_t sm_checked_node_header(const sm_numbers *numbers, const u
 }
 SM_CALL(1, 5, 7)
 static inline uint32_t sm_checked_node_new(sm_node *node, const uint8_t *header, size_t header_bytes, uint32_t general,
-                                           const uint8_t seed[32], uint32_t order, uint32_t *fault) {
+                                           sm_node *keys, uint32_t order, uint32_t *fault) {
     uint8_t none = 0;
     *fault = 0;
     if (sm_is_missing(header, header_bytes)) return SM_MISUSE;
-    return sm_node_new(node, header ? header : &none, header_bytes, general, seed, order, fault);
+    return sm_node_new(node, header ? header : &none, header_bytes, general, keys, order, fault);
 }
 SM_CALL(1, 5)
 static inline uint32_t sm_checked_node_send(sm_node *node, uint32_t to, uint8_t *room, size_t room_bytes,
@@ -336,22 +355,22 @@ static inline uint32_t sm_checked_node_log(sm_node *node, uint8_t *room, size_t 
     if (sm_is_missing(room, room_bytes)) return SM_MISUSE;
     return sm_node_log(node, room ? room : &none, room_bytes, count);
 }
-#define SM_CHECKED_BUNDLE(name)                                                                                        \
-    SM_CALL(10, 11) static inline uint32_t sm_checked_##name(                                                          \
-        const uint8_t *header, size_t header_bytes, uint32_t faulty, const sm_log *logs, size_t log_count,             \
-        const uint8_t *bytes, size_t byte_count, uint8_t *room, size_t room_bytes, size_t *count, uint32_t *fault) {   \
-        uint8_t none[3] = {0, 0, 0};                                                                                   \
-        sm_log nobody = {0, 0};                                                                                        \
-        *count = 0;                                                                                                    \
-        *fault = 0;                                                                                                    \
-        if (sm_is_missing(header, header_bytes) || sm_is_missing(logs, log_count)) return SM_MISUSE;                   \
-        if (sm_is_missing(bytes, byte_count) || sm_is_missing(room, room_bytes)) return SM_MISUSE;                     \
-        return sm_##name(header ? header : none, header_bytes, faulty, logs ? logs : &nobody, log_count,               \
-                         bytes ? bytes : none + 1, byte_count, room ? room : none + 2, room_bytes, count, fault);      \
-    }
-SM_CHECKED_BUNDLE(node_bundle)
-SM_CHECKED_BUNDLE(node_bundle_parted)
-#undef SM_CHECKED_BUNDLE
+SM_CALL(11, 12, 13)
+static inline uint32_t sm_checked_node_bundle(const uint8_t *header, size_t header_bytes, uint32_t faulty,
+                                              uint32_t parted, const sm_log *logs, size_t log_count,
+                                              const uint8_t *bytes, size_t byte_count, uint8_t *room, size_t room_bytes,
+                                              size_t *count, uint32_t *fault, sm_pair *apart) {
+    uint8_t none[3] = {0, 0, 0};
+    sm_log nobody = {0, 0};
+    *count = 0;
+    *fault = 0;
+    apart->first = apart->second = 0;
+    if (sm_is_missing(header, header_bytes) || sm_is_missing(logs, log_count)) return SM_MISUSE;
+    if (sm_is_missing(bytes, byte_count) || sm_is_missing(room, room_bytes)) return SM_MISUSE;
+    return sm_node_bundle(header ? header : none, header_bytes, faulty, parted, logs ? logs : &nobody, log_count,
+                          bytes ? bytes : none + 1, byte_count, room ? room : none + 2, room_bytes, count, fault,
+                          apart);
+}
 SM_CALL(3, 4)
 static inline uint32_t sm_checked_node_header_numbers(const uint8_t *header, size_t header_bytes, sm_numbers *numbers,
                                                       uint32_t *fault) {
@@ -387,16 +406,33 @@ static inline uint32_t sm_checked_node_frame_most(const uint8_t *header, size_t 
     if (sm_is_missing(header, header_bytes)) return SM_MISUSE;
     return sm_node_frame_most(header ? header : &none, header_bytes, most, fault);
 }
+SM_CALL(3, 4)
+static inline uint32_t sm_checked_node_run_id(const uint8_t *header, size_t header_bytes, uint8_t run_id[32],
+                                              uint32_t *fault) {
+    uint8_t none = 0;
+    *fault = 0;
+    if (sm_is_missing(header, header_bytes)) return SM_MISUSE;
+    return sm_node_run_id(header ? header : &none, header_bytes, run_id, fault);
+}
+SM_CALL(3, 4)
+static inline uint32_t sm_checked_node_frame_head(const uint8_t *frame, size_t frame_bytes, sm_frame_head *head,
+                                                  uint32_t *fault) {
+    uint8_t none = 0;
+    *fault = 0;
+    if (sm_is_missing(frame, frame_bytes)) return SM_MISUSE;
+    return sm_node_frame_head(frame ? frame : &none, frame_bytes, head, fault);
+}
 #define sm_node_header sm_checked_node_header
 #define sm_node_new sm_checked_node_new
 #define sm_node_send sm_checked_node_send
 #define sm_node_hear sm_checked_node_hear
 #define sm_node_log sm_checked_node_log
 #define sm_node_bundle sm_checked_node_bundle
-#define sm_node_bundle_parted sm_checked_node_bundle_parted
 #define sm_node_header_numbers sm_checked_node_header_numbers
 #define sm_node_rounds sm_checked_node_rounds
 #define sm_node_neighbours sm_checked_node_neighbours
 #define sm_node_frame_most sm_checked_node_frame_most
+#define sm_node_run_id sm_checked_node_run_id
+#define sm_node_frame_head sm_checked_node_frame_head
 #endif
 #endif

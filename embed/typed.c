@@ -1,54 +1,16 @@
 /* Answers in structs: sm_tool's answer to the bytes on standard input, of which each line is made of what sm_read.h
    read.
 
-       typed audit|decide
+       typed audit [--strict]
+       typed decide
 
    The exit status is that of sm_tool, and so is the line of what failed. It is 6 if a text was not read. */
-#include "sm_embed.h"
+#include "answers.h"
 #include "sm_read.h"
 #include <inttypes.h>
-#include <stdio.h>
-#include <stdlib.h>
 #include <string.h>
 
 enum { WRITE_FAILED = 5, NOT_READ = 6 };
-
-/* Some bytes on the heap. */
-struct bytes {
-    uint8_t *at;
-    size_t length;
-};
-
-/* Says in a line on standard error what failed, and returns the exit status for it. */
-static int failed(int status, const char *line) {
-    fprintf(stderr, "%s\n", line);
-    return status;
-}
-
-/* All of standard input; null where memory was refused. */
-static struct bytes read_all(void) {
-    struct bytes read = {malloc(4096), 0};
-    for (size_t room = 4096; read.at != NULL;) {
-        size_t more = fread(read.at + read.length, 1, room - read.length, stdin);
-        read.length += more;
-        if (more == 0) return read;
-        if (read.length < room) continue;
-        room *= 2;
-        uint8_t *longer = realloc(read.at, room);
-        if (longer == NULL) free(read.at);
-        read.at = longer;
-    }
-    return read;
-}
-
-/* The text that an answer holds; null where memory was refused. */
-static struct bytes text_of(sm_answer *answer) {
-    struct bytes text = {NULL, 0};
-    uint32_t status = sm_answer_text(answer, NULL, 0, &text.length);
-    text.at = malloc(text.length != 0 ? text.length : 1);
-    if (text.at != NULL && status == SM_LENGTH) status = sm_answer_text(answer, text.at, text.length, &text.length);
-    return text;
-}
 
 /* Prints a finding. */
 static void print_finding(const sm_finding *it) {
@@ -137,9 +99,10 @@ static int tell(uint32_t status, sm_answer *answer, int is_audit) {
 }
 
 int main(int words, char **word) {
-    int is_audit = words == 2 && strcmp(word[1], "audit") == 0;
+    int is_strict = words == 3 && strcmp(word[2], "--strict") == 0;
+    int is_audit = (words == 2 || is_strict) && strcmp(word[1], "audit") == 0;
     if (!is_audit && (words != 2 || strcmp(word[1], "decide") != 0))
-        return failed(SM_MISUSE, "usage: typed audit|decide");
+        return failed(SM_MISUSE, "usage: typed audit [--strict] or typed decide");
     struct bytes input = read_all();
     if (ferror(stdin)) {
         free(input.at);
@@ -147,7 +110,7 @@ int main(int words, char **word) {
     }
     if (input.at == NULL) return failed(SM_MEMORY, "memory");
     sm_answer answer = {0};
-    uint32_t status = is_audit ? sm_audit_of(NULL, 0, 0, input.at, input.length, &answer)
+    uint32_t status = is_audit ? sm_audit_of(NULL, 0, (uint32_t)is_strict, input.at, input.length, &answer)
                                : sm_decide_as(SM_TEXT, input.at, input.length, &answer);
     int told = tell(status, &answer, is_audit);
     sm_answer_free(&answer);

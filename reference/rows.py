@@ -63,8 +63,8 @@ def bytes_named(names: Dict[str, bytes], said: str) -> bytes:
     return reading.Row(names, reading.tokens_of(said)).bytes()
 
 
-def rows_of(name: str) -> Iterator[Tuple[int, str, str, str]]:
-    """The rows of a file: the line's number, what is asked, the answer of the row, and that of the reference."""
+def lines_of(name: str) -> Iterator[Tuple[int, Dict[str, bytes], str, str]]:
+    """The rows of a file: the line's number, the names above it, what is asked, and the answer of the row."""
     names: Dict[str, bytes] = {}
     with open(os.path.join(reading.DATA, name), encoding="utf-8") as file:
         for number, line in enumerate(file.read().split("\n"), 1):
@@ -76,13 +76,28 @@ def rows_of(name: str) -> Iterator[Tuple[int, str, str, str]]:
                     raise ValueError(f"{name}, line {number}: the name stands above too")
                 names[asked[4:]] = bytes_named(names, wanted)
             else:
-                yield number, asked, wanted, answer_of(names, asked)
+                yield number, names, asked, wanted
+
+
+def rows_of(name: str) -> Iterator[Tuple[int, str, str, str]]:
+    """The rows of a file: the line's number, what is asked, the answer of the row, and that of the reference."""
+    for number, names, asked, wanted in lines_of(name):
+        yield number, asked, wanted, answer_of(names, asked)
 
 
 def files_named() -> List[str]:
     """The files that the gate tries."""
     with open(os.path.join(os.path.dirname(reading.DATA), "stdin"), encoding="utf-8") as file:
         return file.read().split()
+
+
+def commands_tried() -> Iterator[Tuple[str, bytes]]:
+    """The whole commands that the gate tries: their words and their inputs."""
+    for name in files_named():
+        for _, names, asked, _ in lines_of(name) if name != WRONG else ():
+            row = reading.Row(names, reading.tokens_of(asked))
+            if row.word() == "command":
+                yield row.word(), row.bytes()
 
 
 def written() -> str:

@@ -92,7 +92,8 @@ def structs_of_c(text):
     found = {}
     for inside, name in re.findall(r"typedef struct \{(.*?)\} (\w+);", without_comments(text), re.DOTALL):
         rows = [re.fullmatch(r"(\w+) (\*?)(.*)", row.strip()).groups() for row in inside.split(";") if row.strip()]
-        found[name] = [(it.strip(), said + (" *" if star else "")) for said, star, names in rows for it in names.split(",")]
+        fields = [(said + (" *" if star else ""), *re.fullmatch(r"\s*(\w+)(.*)", it).groups()) for said, star, names in rows for it in names.split(",")]
+        found[name] = [(it, said + array) for said, it, array in fields]
     return found
 
 
@@ -114,6 +115,9 @@ def in_c(name):
 
 def type_of_rust(text):
     """The type of C that one of Rust stands for."""
+    array = re.fullmatch(r"\[(\w+); (\d+)\]", text)
+    if array:
+        return f"{in_c(array[1])}[{array[2]}]"
     pointer, name = re.fullmatch(r"(\*const |\*mut )?(\w+)", text).groups()
     of_c = in_c(name)
     return {None: of_c, "*mut ": f"{of_c} *", "*const ": f"const {of_c} *"}[pointer]
@@ -204,7 +208,7 @@ def wrong_with_page(script, functions):
     wrong += [f"embed/page/judging.js: {name} is called, and not exported" for name in lacking]
     for name, behind in re.findall(r'\bask\(of, "(\w+)", [\w.]+(.*)', script):
         numbers = re.match(r", \{[^}]*?numbers: \[([^\]]*)\]", behind)
-        first = RUNS if name.endswith("_of") else []
+        first = RUNS if name.endswith(("_of", "_as")) else []
         wanted = [*first, *["uint32_t"] * len(parts_of(numbers[1]) if numbers else []), *INPUT, "sm_answer *"]
         wrong += differs("embed/page/judging.js", name, wanted, types_of(functions, name)[0])
     for name, inputs in re.findall(r'\bhanded\(of, "(\w+)", (\[[^\]]*\]|inputs)\)', script):
@@ -226,6 +230,7 @@ def structs_of_rust(text):
 def wrong_with_structs(structs):
     """How the structs of the libraries' sources and of the packages differ from those of the headers."""
     wrong, of_ctypes = [], {"uint8_t": ctypes.c_uint8, "uint32_t": ctypes.c_uint32, "size_t": ctypes.c_size_t}
+    of_ctypes["uint8_t[32]"] = ctypes.c_uint8 * 32
     for name, made in STRUCTS.items():
         wanted = [(it, of_ctypes[said]) for it, said in structs.get(name, ())]
         wrong += differs("embed/python/vamuretu/_libraries.py", name, [tuple(it) for it in made._fields_], wanted)

@@ -17,7 +17,7 @@ from words import rows
 
 BASH, ZSH = "share/bash-completion/completions/sm_tool", "share/zsh/site-functions/_sm_tool"
 FISH = "share/fish/vendor_completions.d/sm_tool.fish"
-SOURCE = os.path.join(TOP, "crates", "gen_program", "src", "command_line.rt")
+SOURCE = os.path.join(TOP, "crates", "gen_words", "src", "command_line.rt")
 # What stands beside the commands that have a section.
 OTHERS = {"help": "Says what the program or a command takes"}
 # The commands that take several files.

@@ -1,5 +1,6 @@
 # Functions of the scripts prove and test, which read this file with $top set to the top folder: a copy of the sources, which
 # nobody edits, and what is kept of what is built there.
+. "$top/tools/level_3.sh"
 
 # Copies the sources to a folder of their own, $copy, which goes when the script ends.
 copy_sources() {
@@ -26,17 +27,6 @@ keep_program() {
         return 1
     names_of_program | sed 's,.*,crates/&/src,' | tr '\n' ' ' >"$copy/sources" && echo crates.txt >>"$copy/sources" &&
         touch -r "$copy/begun" "$copy/sources" && cp -p "$copy/sources" "$kept.sources"
-}
-
-# Whether this processor has the instructions of the level x86-64-v3, AVX2 among them.
-has_level_3() {
-    flags=$(grep -m 1 '^flags' /proc/cpuinfo 2>/dev/null)
-    for flag in avx2 bmi1 bmi2 fma f16c movbe; do
-        case " $flags " in
-        *" $flag "*) ;;
-        *) return 1 ;;
-        esac
-    done
 }
 
 # Builds what a crate of the copy has built once more, for processors of the level x86-64-v3, and puts it to $copy. The words are

@@ -4,13 +4,14 @@
     python3 tools/counts.py    at the top of the repository
 
 Each file of rows that the gate tries, and each file of tests, has to stand in one line of its table. Each edit that the gate
-tries has to stand in the table of wrong bodies. It prints nothing, and its status is 0, where all is as the page says.
+tries has to stand in the table of edits/README.md. It prints nothing, and its status is 0, where all is as the pages say.
 """
 import pathlib
 import re
 import sys
 
 PAGE, TOP = pathlib.Path("docs/ASSURANCE.md"), pathlib.Path()
+EDITS = pathlib.Path("edits/README.md")
 # The rows whose answers are wrong stand in the text, without their number.
 WRONG = "wrong.rows"
 
@@ -19,9 +20,9 @@ def names_in(text):
     return re.findall(r"`([^`]+)`", text)
 
 
-def lines_below(head):
-    """The cells of each line of the table with this head."""
-    behind = PAGE.read_text(encoding="utf-8").partition(f"\n{head}\n")[2] or sys.exit(f"{PAGE}: no table {head}")
+def lines_below(head, page=PAGE):
+    """The cells of each line of the table of a page with this head."""
+    behind = page.read_text(encoding="utf-8").partition(f"\n{head}\n")[2] or sys.exit(f"{page}: no table {head}")
     return [line.strip("| ").split(" | ") for line in behind.partition("\n\n")[0].split("\n")[1:]]
 
 
@@ -63,9 +64,9 @@ def wrong_edits():
         found = len(list(TOP.glob(f"{names_in(cell)[0]}/*.edit")))
         if number != str(found):
             yield f"{cell}: {number}, and there are {found}"
-    bodies = lines_below("| Wrong body | Refused by | Tried by the gate |")
-    named = {name for cells in bodies for name in names_in("".join(cells[2:]))}
-    yield from (f"{path} stands nowhere" for path in sorted(TOP.glob("crates/*/must-fail/*.edit")) if path.stem not in named)
+    gates = lines_below("| Edit of the gate | Its danger, or what is left open | Refused by |", EDITS)
+    named = {name for cells in gates for name in names_in(cells[0])}
+    yield from (f"{path} stands nowhere in {EDITS}" for path in sorted(TOP.glob("crates/*/must-fail/*.edit")) if path.stem not in named)
 
 
 def wrong():

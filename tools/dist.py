@@ -9,7 +9,6 @@ front, and otherwise by the version and the commit. A commit with this tag whose
 refused.
 Dates are that of the commit, or SOURCE_DATE_EPOCH; owners, modes and the order are fixed.
 """
-import calendar
 import gzip
 import hashlib
 import io
@@ -25,6 +24,7 @@ import time
 import completions
 import debian
 import proved
+from debian import read, write
 from man3 import FUNCTION, HEADERS, SHARED
 from version import TOP, UNRELEASED, is_unreleased, short, version
 
@@ -40,6 +40,8 @@ LEVEL_3 += [("libsm_node-v3.a", "sm_node", "lib/libsm_node-v3.a")]
 KEPT = ("README.md", "CHANGELOG.md", "INSTALL.md", "SECURITY.md", "LICENSE-MIT", "LICENSE-APACHE", "install.sh")
 FOLDERS = ("docs/", "examples/", "reference/", "embed/")
 LEFT_OUT = ("embed/page/", "embed/vamuretu-config", "reference/.")
+# The line of install.sh that reads a script, and this script: in the archive it stands in the place of the line.
+READS, READ = b'. "$here/tools/level_3.sh"\n', "tools/level_3.sh"
 COMPILED = ["-std=c11", "-O2", "-fPIC", "-Wall", "-Wextra", "-Werror"]
 LINKED = ["-shared", "-s", "-Wl,--build-id=none", "-Wl,-z,relro,-z,now"]
 X86_64 = 62
@@ -59,17 +61,6 @@ def run(*words, **how):
         said = ran.stderr.decode(errors="replace").strip().splitlines() or ["it says nothing"]
         raise Refused(f"{words[0]} failed: {said[0][:300]}")
     return ran.stdout.decode()
-
-
-def read(path):
-    with open(path, "rb") as file:
-        return file.read()
-
-
-def write(path, data):
-    os.makedirs(os.path.dirname(path), exist_ok=True)
-    with open(path, "wb") as file:
-        file.write(data)
 
 
 def commit():
@@ -123,7 +114,8 @@ def put_pages(tree):
 def put_libraries(tree):
     """The heap, and the shared libraries, each with its own heap and with the functions of its header alone to be seen."""
     with tempfile.TemporaryDirectory() as scratch:
-        shutil.copy(os.path.join(TOP, "embed", "heap.c"), scratch)
+        for name in ("heap.c", "sm_heap.h"):
+            shutil.copy(os.path.join(TOP, "embed", name), scratch)
         run("cc", *COMPILED, "-c", "heap.c", "-o", "heap.o", cwd=scratch)
         run("ar", "rcsD", "heap.a", "heap.o", cwd=scratch)
         write(f"{tree}/lib/libsm_embed_heap.a", read(f"{scratch}/heap.a"))
@@ -189,7 +181,7 @@ def make_tree(tree):
     named, seconds = commit()
     built = look_over()
     for name in kept_files():
-        write(f"{tree}/{name}", read(os.path.join(TOP, name)))
+        write(f"{tree}/{name}", read(os.path.join(TOP, name)).replace(READS, read(os.path.join(TOP, READ))))
     for name, _, place in built:
         write(f"{tree}/{place}", read(os.path.join(OUT, name)))
     put_pages(tree)

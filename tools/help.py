@@ -3,7 +3,7 @@
 
     tools/help.py PROGRAM       writes what the built program says of itself, of each of its commands, and of its version
     tools/help.py --unproved    writes the same by the program as `rt try` compiles it, in some minutes
-    tools/help.py --check       names what crates/gen_program/src/command_line.rt has and the file lacks
+    tools/help.py --check       names what crates/gen_words/src/command_line.rt has and the file lacks
 
 The check wants no program: each text of that source has to stand in the file, and each command and option. The trial `worked`
 compares the file with the built program, byte for byte. With nothing to name the check is silent, with status 0.
@@ -18,7 +18,7 @@ import tempfile
 from version import TOP, read
 
 KEPT = os.path.join(TOP, "reference", "help.json")
-SOURCE = os.path.join(TOP, "crates", "gen_program", "src", "command_line.rt")
+SOURCE = os.path.join(TOP, "crates", "gen_words", "src", "command_line.rt")
 
 
 def asked(source):

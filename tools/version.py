@@ -20,7 +20,7 @@ TELLS = 'pub extern "C" fn {}() -> u32\n    ensures {{{{ result ≡ {{number}} }
 # The copies: a file, and texts that it has once or oftener, in which {version} stands for the version, {short} for its first two
 # numbers, and {number} for 1000000 times the first, 1000 times the second, and the third.
 COPIES = [
-    ("crates/gen_program/src/command_line.rt", '.version("{version}")'),
+    ("crates/gen_words/src/command_line.rt", '.version("{version}")'),
     ("crates/gen_json/src/origins.rt", 'TOOL_VERSION: &str = "{version}"'),
     ("crates/gen_json/specs/OriginData.antt", 'tool_version = codes "{version}"'),
     ("crates/rows/data/commands.rows", '"tool":"{version}"'),

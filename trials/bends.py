@@ -1,6 +1,7 @@
 """Turns, cuts, doubles and moves pieces of inputs, by what is drawn."""
 from campaigns import bytes_of
-from layout import Bundle, Log, front_length, small_front, small_in_evidence, text_length
+from layout import ROOT, Bundle, Log, front_length, header_of, small_in_bundle, small_in_evidence, with_shared_root
+from scenarios import spell_lines
 
 VALUES = [0, 1, 2, 3, 4, 15, 16, 17, 254, 255]
 NUMBERS = ["0", "1", "2", "3", "7", "8", "9", "15", "16", "17", "255", "256", "00", "01", "-1", "+1", "", "x", "9" * 40]
@@ -135,7 +136,16 @@ def bend_text(draws, text):
         (draws.one_of(OF_LINES) if lines else insert_line)(draws, lines)
     if lines and draws.is_one_in(60):
         lengthen_line(draws, lines)
-    return "".join(f"{line}\n" for line in lines).encode()
+    return spell_lines(lines)
+
+
+# Headers.
+
+
+def share_root(draws, *given):
+    """Two generals have one root, in each of these bundles or pieces of evidence."""
+    first, second = (draws.below(len(header_of(given[0]).roots)) for _ in range(2))
+    return [with_shared_root(data, first, second) for data in given]
 
 
 # Bundles.
@@ -143,7 +153,7 @@ def bend_text(draws, text):
 
 def other_faulty(draws, bundle):
     """Others are held for faulty, with the walks as they were or with none."""
-    bundle.faulty = draws.below(1 << bundle.front[5 if bundle.version == 1 else 6]).to_bytes(2, "big")
+    bundle.faulty = draws.below(1 << bundle.header.network.generals).to_bytes(2, "big")
     if draws.is_one_in(3):
         bundle.walks = []
 
@@ -208,8 +218,8 @@ def bend_entries(draws, bundle):
     """A log with an entry left out, doubled, moved or taken from another log, which is not sealed anew."""
 
     def changed(data):
-        log = Log(data, bundle.version)
-        other = Log(draws.one_of(bundle.exhibits)[1], bundle.version)
+        log = Log(data, bundle.header)
+        other = Log(draws.one_of(bundle.exhibits)[1], bundle.header)
         at, to, way = draws.below(len(log.entries)), draws.below(len(log.entries)), draws.below(5)
         entry = log.entries[at] if way in (1, 2) else draws.one_of(other.entries)
         if way in (0, 2, 3):
@@ -225,8 +235,8 @@ def give_head(draws, bundle):
     """A log with the head's signature of another."""
 
     def changed(data):
-        log = Log(data, bundle.version)
-        log.head = Log(draws.one_of(bundle.exhibits)[1], bundle.version).head
+        log = Log(data, bundle.header)
+        log.head = Log(draws.one_of(bundle.exhibits)[1], bundle.header).head
         return log.spell()
 
     exhibit_changed(draws, bundle, changed)
@@ -240,9 +250,11 @@ def bend_bundle(draws, data):
     """A bundle with one change."""
     if draws.is_one_in(5):
         return bend_bytes(draws, data)
-    bundle = Bundle(data)
+    if draws.is_one_in(16):
+        return share_root(draws, data)[0]
     if draws.is_one_in(3):
-        return bend_small(draws, data, bundle.small_places())
+        return bend_small(draws, data, small_in_bundle(data))
+    bundle = Bundle(data)
     draws.one_of(OF_BUNDLES)(draws, bundle)
     return bundle.spell()
 
@@ -267,9 +279,15 @@ def other_runs(draws, runs, other):
 def other_front(draws, runs, other):
     """Another number, edge or slot in a header, or a root with a bit turned."""
     runs, at = list(runs), draws.below(len(runs))
-    front = range(front_length(runs[at]) - 32, front_length(runs[at])) if draws.is_one_in(4) else small_front(runs[at])
-    runs[at] = bend_small(draws, runs[at], front)
+    end = front_length(runs[at])
+    small = [place for place in small_in_bundle(runs[at]) if place < end]
+    runs[at] = bend_small(draws, runs[at], range(end - ROOT, end) if draws.is_one_in(4) else small)
     return bytes_of(*runs)
+
+
+def other_root(draws, runs, other):
+    """Two generals have one root in each run."""
+    return bytes_of(*share_root(draws, *runs))
 
 
 def other_count(draws, runs, other):
@@ -286,28 +304,18 @@ def bend_campaign(draws, runs, other):
     """A campaign of bundles with one change."""
     if draws.is_one_in(4):
         return bend_bytes(draws, bytes_of(*runs))
-    return draws.one_of([other_runs, other_runs, other_front, other_count])(draws, runs, other)
+    return draws.one_of([other_runs, other_runs, other_front, other_count, other_root])(draws, runs, other)
 
 
 # Evidence.
-
-
-def small_across(data):
-    """The places of evidence of two runs that are neither of roots nor of signatures nor of links."""
-    at = front_length(data)
-    second = at + 2 - 4
-    places = [*small_front(data), at, at + 1, *(second + place for place in small_front(data[second:])[4:])]
-    first = second + front_length(data[second:])
-    signature = (len(data) - first) // 2 // 64 * 64
-    for begin in (first, first + text_length(data, first) + signature):
-        places += range(begin, min(len(data), begin + min(10, text_length(data, begin))))
-    return places
 
 
 def bend_evidence(draws, data):
     """Evidence with one change."""
     if draws.is_one_in(3):
         return bend_bytes(draws, data)
+    if draws.is_one_in(16):
+        return share_root(draws, data)[0]
     if draws.is_one_in(6):
         mark = data[:3] + bytes([data[3] ^ 3])
         return mark + data[4:]
@@ -315,6 +323,6 @@ def bend_evidence(draws, data):
         half = (len(data) - front_length(data) - 2) // 2
         at = len(data) - half
         return data[: at - half] + data[at:] + data[at - half : at]
-    places = small_across(data) if data[front_length(data) + 1] == 5 else small_in_evidence(data)
+    places = small_in_evidence(data)
     behind = [place for place in places if place >= front_length(data)]
     return bend_small(draws, data, places if draws.is_one_in(5) else behind)

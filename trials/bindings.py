@@ -16,12 +16,14 @@ from layout import Bundle
 from nodes import ARCHIVE as NODES
 from programs import End, by_library, run, side_by_side
 from refusals import EXAMPLES
+from scenarios import header_text, signed
 
 PYTHON, RUST = os.path.join(EMBED, "python"), os.path.join(EMBED, "rust")
 ARCHIVES = {"sm_embed": JOBS, "sm_node": NODES}
 # Of cargo: nothing is fetched, and nothing is written to the sources.
 OFFLINE = ["--offline", "--locked", "--quiet"]
-WORDS = [["audit"], ["draw"], ["evidence"], ["decide"], ["show"], *([it, "--json"] for it in ("audit", "evidence", "decide", "show")), *(["accuse", str(general)] for general in (0, 1, 15))]
+WORDS = [["audit"], ["draw"], ["evidence"], ["decide"], ["show"], ["plan"]]
+WORDS += [[it, "--json"] for it in ("audit", "evidence", "decide", "show")] + [["accuse", str(general)] for general in (0, 1, 15)]
 
 
 def build_libraries(folder, source_of_heap):
@@ -36,9 +38,10 @@ def build_libraries(folder, source_of_heap):
 
 
 def example_cases():
-    """The jobs on each example."""
+    """The jobs on each example, and on texts of headers."""
     paths = [os.path.join(EXAMPLES, name) for name in sorted(os.listdir(EXAMPLES))]
     inputs = [open(path, "rb").read() for path in paths if os.path.isfile(path)]
+    inputs += [header_text(signed()[name]) for name in ("pair", "no_walk", "ring")]
     return [(job, given) for given in inputs for job in WORDS]
 
 
@@ -47,6 +50,9 @@ def text_of(vamuretu, job, given):
     if job[0] == "show":
         is_whole, lines = (vamuretu.show_json if job[1:] else vamuretu.show)(given)
         return int(not is_whole), lines.encode()
+    if job[0] == "plan":
+        holds, text = vamuretu.plan(given)
+        return int(not holds), text.encode()
     if job[1:] == ["--json"]:
         line = {"audit": vamuretu.audit_json, "evidence": vamuretu.evidence_json, "decide": vamuretu.decide_json}[job[0]](given)
         is_no = '"holds":false' in line or '"verdict":"no"' in line

@@ -11,8 +11,8 @@ import shutil
 import tempfile
 
 from layout import Bundle
-from programs import End, count_cores, run, shown, side_by_side
-from refusals import AT_ONCE, HERE, build, numbers, one_slot_twice, refused, told_by
+from programs import End, run, shown
+from refusals import HERE, build, one_slot_twice, refused, runs_of, told_by
 from scenarios import signed, sixteen
 
 PROGRAM = os.path.join(os.path.dirname(HERE), "crates", "rows", "out", "rows")
@@ -82,18 +82,15 @@ def differs(end, whole, answer):
 
 def count_up(call, whole, answer, is_sampled):
     """Refuses one growth after the other. Returns how many runs were answered so, and what is wrong with one, or None."""
-    coming, refusals, met = numbers(is_sampled), 0, 0
-    while True:
-        some = [number for number, _ in zip(coming, range(AT_ONCE * count_cores()))]
-        if not some:
-            return refusals, f"still refused after {met} runs"
-        for number, (end, was_refused) in zip(some, side_by_side(call, some)):
-            wrong = differs(end, whole, answer(was_refused) if was_refused else None)
-            if wrong:
-                return refusals, f"{number} refused: {wrong}"
-            if not was_refused:
-                return refusals, None if refusals else "no refusal was ever answered"
-            met, refusals = met + 1, refusals + (end != whole)
+    met = refusals = 0
+    for number, end, was_refused in runs_of(call, is_sampled):
+        wrong = differs(end, whole, answer(was_refused) if was_refused else None)
+        if wrong:
+            return refusals, f"{number} refused: {wrong}"
+        if not was_refused:
+            return refusals, None if refusals else "no refusal was ever answered"
+        met, refusals = met + 1, refusals + (end != whole)
+    return refusals, f"still refused after {met} runs"
 
 
 def try_case(library, tally, case, is_sampled):

@@ -7,6 +7,7 @@ import os
 
 from programs import End, differs, fault, first_line, run
 from scenarios import ZEROS, chain, everybody, scenario
+from vector_cases.handed_in import several as bytes_of
 
 EXAMPLES = os.path.join(os.path.dirname(os.path.abspath(__file__)), "..", "examples")
 
@@ -32,10 +33,6 @@ def text_of(*texts):
 def slot_twice(program):
     """The bundles of two runs in one slot."""
     return [run(program, ["run"], text).wrote for text in (pair(0), pair(0, 1, {1: []}))]
-
-
-def bytes_of(*bundles):
-    return b"SMC2" + bytes([len(bundles)]) + b"".join(bundles)
 
 
 def try_runs(program, tally):

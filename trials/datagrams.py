@@ -15,14 +15,12 @@ import os
 import selectors
 import shutil
 import socket
-import tempfile
 import threading
 import time
 from typing import NamedTuple
 
-from embed import IsNotBuilt
-from processes import ARCHIVE, FOUR, SIXTEEN, System, TooBusy, Way, build_programs, made_bundle, make_header, run_id_of
-from processes import run_in_time, sanitized, try_system
+from processes import FOUR, SIXTEEN, System, TooBusy, Way, build_programs, made_bundle, make_header, run_id_of
+from processes import run_in_time, sanitized, try_system, try_with_library
 from programs import run
 from scenarios import everybody
 
@@ -317,14 +315,7 @@ def has_families():
 
 
 def trials(program, tally):
-    if not os.path.exists(ARCHIVE) or not shutil.which("cc"):
-        tally.note("left out: cc or crates/sm_node/out/libsm_node.a is not there")
-        return
-    if not has_families():
+    if has_families():
+        try_with_library(tally, lambda folder: try_built(program, tally, folder))
+    else:
         tally.note("left out: this machine has no address 127.0.0.1 or no ::1")
-        return
-    with tempfile.TemporaryDirectory(dir="/tmp") as folder:
-        try:
-            try_built(program, tally, folder)
-        except IsNotBuilt as told:
-            tally.fail(str(told))

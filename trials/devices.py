@@ -28,7 +28,8 @@ def jobs(program, commands):
     both += [(["audit"], bundle), (["audit", "--workers", "3"], bundle), (["draw"], bundle)]
     both += [(["accuse", "--general", "0"], bundle), (["run"], sixteen())]
     both += [(["campaign"], b"campaign 2\n" + b"".join(signed(slot=slot)["pair"] for slot in (1, 2)))]
-    both += [(["root"], bytes(range(32))), (["header"], header_text()), (["bundle", "-"], Bundle(bundle).front[MARK:])]
+    both += [(["root"], bytes(range(32))), (["header"], header_text()), (["plan"], header_text())]
+    both += [(["bundle", "-"], Bundle(bundle).front[MARK:])]
     return [(words, given) for words, given in [*both, (["evidence"], evidence)] if words[0] in commands]
 
 

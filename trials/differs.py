@@ -22,19 +22,19 @@ import tempfile
 import time
 import traceback
 
-from bends import bend_bundle, bend_bytes, bend_campaign, bend_evidence, bend_text
+from bends import bend_bundle, bend_bytes, bend_campaign, bend_evidence, bend_text, share_root
 from bent import plain_texts, seeded_texts
 from campaigns import bytes_of
 from drawn import COMMANDS, SEVERAL, VERSIONS, WANT_RUNS, campaign_lines, draw_campaign, draw_plan, draw_words
 from drawn import good_options, run_id
 from drawn import spell_lines, spoil_text
-from drawing import bundles_in
 from draws import Draws
 from forging import Forger, compose_evidence, forge_bundle, hold_for_faulty, replayed
-from layout import Bundle, front_length
+from layout import MARK, Bundle, front_length
 from programs import End, commands_of, run, shown
 from reference import answer
 from model import words as named
+from model.bundle import read_campaign
 from model.faults import Fault
 from model.show import shown_runs
 import several
@@ -50,7 +50,7 @@ NAMED = named.rows()
 # The line of status 2 ends with a pointer to --help; FORMATS.md fixes nothing else of it.
 POINTER = re.compile(rb"[^\n]*--help\W*\n")
 # What is counted of the text of a verdict.
-TOLD = re.compile(r"agreed|explained|\bno\b|across|K\d|N\d+|\bL\d(?: C\d)?")
+TOLD = re.compile(r"agreed|explained|\bno\b|across|equal roots|K\d|N\d+|\bL\d(?: C\d)?")
 
 
 def kept(make):
@@ -92,7 +92,7 @@ class Block:
         for _ in range(TRIES):
             if draws.below(2):
                 made = self.make(["campaign"], spell_lines(draw_campaign(draws, seed)))
-                runs = bundles_in(made.wrote) if made.status == 0 else []
+                runs = [it.spell() for it in read_campaign(made.wrote)] if made.status == 0 else []
             else:
                 generals, count = draws.one_of([2, 3, 3, 4]), draws.one_of([2, 2, 3])
                 slots = sorted(draws.below(3) for _ in range(count))
@@ -229,11 +229,20 @@ def shown_input(draws, block):
     way = draws.below(8)
     if way < 3:
         return evidence_input(draws, block)
-    if way > 3:
-        return bundle_input(draws, block)
+    return bundle_input(draws, block) if way > 3 else header_alone(draws, block)
+
+
+def header_alone(draws, block):
+    """A header in bytes, whole or bent, or one in which two generals have one root."""
     data = block.bundle(draws.below(BUNDLES))[1]
-    header = data[4 : front_length(data) + draws.one_of([0, 0, 0, -1, 1, -40])]
+    data = share_root(draws, data)[0] if draws.is_one_in(8) else data
+    header = data[MARK : front_length(data) + draws.one_of([0, 0, 0, -1, 1, -40])]
     return header if draws.below(3) else bend_bytes(draws, header)
+
+
+def plan_input(draws, block):
+    """The text of a header, a header in bytes, or a bundle or a campaign, each whole or bent."""
+    return draws.one_of([header_input, header_input, header_alone, bundle_input])(draws, block)
 
 
 def root_input(draws, block):
@@ -252,8 +261,10 @@ def header_input(draws, block):
         return scenario_input(draws, block, True)
     if way < 3:
         return spell_lines(with_bad_root(draws, lines))
-    if way < 6:
+    if way < 5:
         return bend_text(draws, text)
+    if way == 5:
+        return spell_lines(with_equal_roots(draws, lines))
     return spoil_text(draws, text) if way < 10 else text
 
 
@@ -265,9 +276,15 @@ def with_bad_root(draws, lines):
     return [*lines[:at], draws.one_of(bad), *lines[at + 1 :]]
 
 
+def with_equal_roots(draws, lines):
+    """Lines of which some roots are one of the first two."""
+    roots = [line for line in lines if line.startswith("root ")]
+    return [draws.one_of([line, *roots[:2]]) if line in roots else line for line in lines]
+
+
 def text_input(draws, block):
-    """The text of a verdict, of decisions or of evidence, or a line of a fault, whole or bent."""
-    command = draws.one_of(["audit", "audit", "decide", "evidence"])
+    """The text of a verdict, of decisions, of evidence, of a plan or of a file, or a line of a fault, whole or bent."""
+    command = draws.one_of(["audit", "audit", "decide", "evidence", "plan", "show"])
     end = block.make([command], INPUTS[command](draws, block))
     text = end.wrote + end.said
     return bend_text(draws, text) if draws.is_one_in(3) else text
@@ -284,6 +301,7 @@ INPUTS = {
     "decide": decide_input, "run": run_input, "judge": run_input, "campaign": campaign_input,
     "audit": bundle_input, "draw": bundle_input, "accuse": bundle_input, "evidence": evidence_input,
     "show": shown_input, "words": text_input, "explain": foreign, "root": root_input, "header": header_input,
+    "plan": plan_input,
 }
 
 
@@ -365,7 +383,7 @@ class Counts:
         """One case, under the name of its command."""
         self.statuses[words[0] if words and words[0] in COMMANDS else "no command", end.status] += 1
         if end.status == 3:
-            said = end.said.decode("ascii", "replace").split(" line ")[0].split()
+            said = end.said.decode("ascii", "replace").partition("\n")[0].split(" line ")[0].split()
             self.faults[" ".join(part for part in said[1:] if not part.isdigit())] += 1
         if words and words[0] in ("audit", "judge"):
             self.told.update(set(TOLD.findall(end.wrote.decode())))

@@ -3,7 +3,7 @@
 What is drawn mostly reads; some numbers of scripts and some words are bad.
 """
 from bends import NUMBERS
-from scenarios import chain, everybody, ring
+from scenarios import chain, everybody, ring, scenario_lines, spell_lines
 
 SMALL = [2, 2, 3, 3, 3, 3, 4, 4, 4, 5, 5, 6]
 GREAT = [7, 8, 9, 16]
@@ -34,21 +34,10 @@ class Plan:
 
     def lines(self):
         """The lines of its text."""
-        lines = [f"generals {self.generals}", *(f"edge {a} {b}" for a, b in self.edges)]
-        lines += [f"traitors {self.traitors}", f"diameter {self.diameter}", f"orders {self.orders}"]
-        lines += [f"choice {self.choice}", f"order {self.order}"]
-        lines += [] if self.seed is None else [f"seed {self.seed}"]
-        lines += [] if self.slot is None else [f"slot {self.slot}"]
-        for general, script in sorted(self.scripts.items()):
-            lines += [f"script {general}", *script]
-        return [*lines, "end"]
+        return scenario_lines(**vars(self))
 
     def spell(self):
         return spell_lines(self.lines())
-
-
-def spell_lines(lines):
-    return "".join(f"{line}\n" for line in lines).encode()
 
 
 def shuffled(draws, items):
@@ -316,10 +305,10 @@ def spoil_text(draws, text):
 # Words.
 
 COMMANDS = ["decide", "run", "judge", "campaign", "audit", "draw", "accuse", "evidence", "show", "words", "explain"]
-COMMANDS += ["root", "header", "bundle", "answer"]
+COMMANDS += ["root", "header", "plan", "bundle", "answer"]
 TAKES = {
     "run": ["capacity"], "judge": ["capacity", "workers"], "campaign": ["capacity"],
-    "audit": ["workers"], "draw": ["workers"], "accuse": ["general"], "header": ["slot"],
+    "audit": ["workers"], "draw": ["workers"], "accuse": ["general"], "header": ["slot"], "plan": ["slot"],
 }
 FLAGS = {
     "decide": ["json"], "run": ["print-run"], "judge": ["strict", "json"], "campaign": ["print-run"],

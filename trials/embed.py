@@ -15,17 +15,18 @@ import subprocess
 import tempfile
 import textwrap
 
-from bends import bend_bundle, bend_evidence, bend_text
+import reference
+from bends import bend_bundle, bend_bytes, bend_evidence, bend_text
 from bent import Bases
 from campaigns import bytes_of, pair, slot_twice, text_of
 from devices import READ_FAILED, WRITE_FAILED, by_shell
 from draws import Draws
 from exported import Native, evidence_by_kind, near_wrong
-from layout import Bundle
+from layout import Bundle, with_shared_root
 from pinned import FILES, answer_of, lists_of, nearly, pinned_cases, read, runs_of, told_cases
 from programs import End, by_library, differs, run, side_by_side, spell
 from refusals import EXAMPLES, OF_MEMORY, build as build_refusing, count_up, refused
-from scenarios import signed, sixteen
+from scenarios import chain, everybody, header_text, ring, scenario, signed, sixteen
 
 TOP = os.path.dirname(os.path.dirname(os.path.abspath(__file__)))
 EMBED = os.path.join(TOP, "embed")
@@ -125,7 +126,7 @@ def bent_cases(program):
 
 def words_of(job):
     """The program's words for a job of the library."""
-    return job if job[1:] in ([], ["--json"]) else [job[0], "--general", job[1]]
+    return [job[0], "--general", job[1]] if job[0] == "accuse" else job
 
 
 def first_wrong(answered, cases, wanted):
@@ -247,6 +248,27 @@ def shown_cases(program):
     yield from ((["show", *asked, *form], header) for asked in ([], own) for form in ([], ["--json"]))
 
 
+def too_weak():
+    """Scenarios of networks that do not carry what is planned: d is too small, m is too great, or two generals are parted."""
+    nearly_all = [edge for edge in everybody(16) if edge != (3, 9)]
+    planned = [(chain(4), 0, 2), (chain(4), 1, 3), (ring(6), 1, 3), (ring(6), 2, 4), ([(0, 1), (2, 3)], 0, 1), (nearly_all, 8, 1)]
+    return [scenario(edges, traitors, diameter, 1) for edges, traitors, diameter in planned]
+
+
+def plan_cases(program):
+    """Headers of which the plan holds or fails, as texts, in bytes, in bundles and in a campaign, whole and bent; other files."""
+    draws, texts = Draws("plans"), [header_text(text) for text in (*signed().values(), *too_weak(), sixteen())]
+    headers = [run(program, ["header", *slot], text).wrote for text in texts for slot in ([], ["--slot", "3"])]
+    bundles = [run(program, ["run"], text).wrote for text in (signed()["no_walk"], signed(1)["ring"])]
+    shared = re.sub(rb"root \w+", b"root " + b"00" * 32, texts[0]), headers[0][:-32] + headers[0][-64:-32]
+    campaign = read("series.bundles")
+    others = [b"", *shared, headers[0][:-1], headers[0] + b"\0", bundles[0][:-1], campaign[:-1], read("split.evidence")]
+    others += [signed()["pair"], read("series.campaign")]
+    bent = [bend_text(draws, draws.one_of(texts[:-1])) for _ in range(HUNDRED // 2)]
+    bent += [bend_bytes(draws, draws.one_of(headers[:-2])) for _ in range(HUNDRED // 2)]
+    return [(["plan"], given) for given in (*texts, *headers, *bundles, campaign, *others, *bent)]
+
+
 def kept_cases(program):
     """Cases of answers that are kept: runs that are expected, what is told, and bent files of both."""
     draws, bases = Draws("kept"), Bases(program)
@@ -258,6 +280,7 @@ def kept_cases(program):
     yield from ((words, given) for given in long_faults(program) for words in (["audit"], ["draw"], ["decide"]))
     yield from told_cases()
     yield from shown_cases(program)
+    yield from plan_cases(program)
     yield from (([*words, "--json"], given) for words, given in told_cases() if words == ["show"])
     for _ in range(HUNDRED):
         bundle, evidence = bend_bundle(draws, draws.one_of(bases.bundles)), bend_evidence(draws, draws.one_of(bases.evidence))
@@ -280,9 +303,28 @@ def try_kept(program, tally, answers):
         tally.hold(f"answers, {spell(bad)}", None if (end.status, end.wrote) == (2, b"") else f"{end}")
 
 
+def try_plans(program, tally):
+    """Whether plans hold, by the program and by the reference, and what is told of one that fails."""
+    cases = plan_cases(program)
+    wanted = side_by_side(lambda case: run(program, *case), cases)
+    tally.count(len(cases))
+    tally.hold("plans, the reference", first_wrong(reference.answer, cases, wanted))
+    told = run(program, ["plan"], header_text(signed()["no_walk"])).wrote
+    cut = b"plan fails\nwithout 1\npair 0 2\nleast diameter none\nmost traitors 0\n"
+    tally.hold("a plan that fails", None if told.startswith(cut) else f"{told}")
+
+
+def with_equal_roots(program):
+    """Bundles and a campaign in which two generals have one root, or three."""
+    split, runs = read("split.bundle"), slot_twice(program)
+    twice = with_shared_root(split, 0, 2)
+    shared = [twice, with_shared_root(twice, 1, 2), bytes_of(*(with_shared_root(run, 1, 0) for run in runs))]
+    return [(["audit", *strict], given) for given in shared for strict in ([], ["--strict"])]
+
+
 def try_typed(program, tally, typed, cases):
     """The texts of verdicts and decisions, made anew of what is read of them, with the statuses of the program."""
-    texts = [case for case in cases if case[0][0] in ("audit", "decide")]
+    texts = [case for case in [*cases, *with_equal_roots(program)] if case[0][0] in ("audit", "decide")]
     wanted = side_by_side(lambda case: by_library(run(program, case[0], case[1])), texts)
     tally.count(len(texts))
     for number, made in enumerate(typed):
@@ -469,6 +511,8 @@ def try_refusals(program, tally, folder, example, answers):
     kept += [(["audit", "--run", "0" * 64], split), (["audit"], b""), (["explain"], b"K2"), (["words"], read("split.verdict"))]
     kept += [(["audit", "--json"], split), (["evidence", "--json"], evidence), (["decide", "--json"], signed()["split"])]
     kept += [(["show", "--json", *asked], split), (["show", "--json"], evidence), (["show", "--run", "0" * 64], split)]
+    kept += [(["plan"], it) for it in (header_text(), header_text(signed()["no_walk"]), header_of(split), split)]
+    kept += [(["audit", "--strict"], with_shared_root(split, 0, 2))]
     kept += [(["run-ids"], it) for it in (split, evidence, header_of(split))]
     for program_of, job, given in [*((example, *case) for case in cases), *((answers, *case) for case in kept)]:
         whole = run(program_of, job, given)
@@ -510,6 +554,7 @@ def try_built(program, tally, folder):
     try_rooms(library, tally, cases)
     try_answers(tally, program, shared)
     try_kept(program, tally, answers)
+    try_plans(program, tally)
     try_typed(program, tally, typed, [*cases, *bent])
     try_known(tally, program, shared)
     try_near(tally, program, Native(shared))

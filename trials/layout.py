@@ -1,136 +1,93 @@
-"""Where the parts of whole bundles, logs and pieces of evidence stand, by docs/FORMATS.md."""
+"""Bundles and logs in parts that can be changed one by one, as the reference reads them, and where the small bytes of a file
+stand: those that are neither of roots, nor of signatures, nor of run ids.
+"""
+import dataclasses
 
-SIGNATURE = {1: 16_512, 2: 16_576}
-MARK = 4
-RUN_ID = 32
+import reference  # noqa: F401
+from model.bundle import MARKS, Exhibit, read_bundle
+from model.evidence import read_evidence
+from model.faults import Cursor
+from model.log import read_log, read_set, spell_set
+from model.network import read_header
+
+MARK, ROOT = 4, 32
+# The fields of the reference's values that are roots, run ids or signatures, and those that are logs as bytes.
+LONG, LOGS = ("roots", "run_id", "signature", "signatures"), ("data", "log")
 
 
-def version_of(data):
-    """The version of the formats that a bundle or a piece of evidence is of."""
-    return data[MARK]
+def header_of(data):
+    """The header behind the mark of a bundle, or of a piece of evidence."""
+    return read_header(Cursor(data[MARK:], "H9"), None)
 
 
 def front_length(data):
     """The length of the mark and the header."""
-    fixed = 7 if version_of(data) == 1 else 8
-    return MARK + fixed + 2 * data[MARK + fixed - 1] + 32 * data[MARK + fixed - 6]
+    return MARK + len(header_of(data).spell())
 
 
-def small_front(data):
-    """The places of the mark and of the header, without its roots."""
-    fixed = 7 if version_of(data) == 1 else 8
-    return list(range(MARK + fixed + 2 * data[MARK + fixed - 1]))
+def with_shared_root(data, first, second):
+    """The same with the root of the second general in the place of that of the first."""
+    header = header_of(data)
+    roots = [header.roots[second if general == first else general] for general in range(len(header.roots))]
+    return data[:MARK] + dataclasses.replace(header, roots=roots).spell() + data[front_length(data) :]
 
 
 class Bundle:
-    """A bundle in its parts."""
+    """A bundle in its parts. Its header stays."""
 
     def __init__(self, data):
-        self.version = version_of(data)
-        at = front_length(data)
-        self.front, self.faulty, count = data[:at], data[at : at + 2], data[at + 2]
-        self.walks, self.exhibits = [], []
-        at += 3
-        for _ in range(count):
-            self.walks.append(list(data[at + 1 : at + 1 + data[at]]))
-            at += 1 + data[at]
-        count = data[at]
-        at += 1
-        for _ in range(count):
-            end = at + 5 + int.from_bytes(data[at + 1 : at + 5], "big")
-            self.exhibits.append((data[at], data[at + 5 : end]))
-            at = end
-
-    def pieces(self):
-        """The bytes of each part, in their order."""
-        pieces = [self.front, self.faulty, bytes([len(self.walks)])]
-        pieces += [bytes([len(walk), *walk]) for walk in self.walks]
-        pieces += [bytes([len(self.exhibits)])]
-        for general, log in self.exhibits:
-            pieces += [bytes([general]), len(log).to_bytes(4, "big"), log]
-        return pieces
+        read = read_bundle(data)
+        self.header, self.front = read.header, MARKS[read.header.version] + read.header.spell()
+        self.faulty, self.walks = spell_set(read.faulty), [list(walk) for walk in read.walks]
+        self.exhibits = [(exhibit.general, exhibit.data) for exhibit in read.exhibits]
+        self.read = read
 
     def spell(self):
-        return b"".join(self.pieces())
-
-    def small_places(self):
-        """The places of the bytes that are neither of roots, nor of signatures, nor of run ids."""
-        places, at = small_front(self.front), len(self.front)
-        for piece in self.pieces()[1:]:
-            inside = small_in_log(piece, self.version) if len(piece) > RUN_ID + 8 else range(len(piece))
-            places += [at + place for place in inside]
-            at += len(piece)
-        return places
-
-
-def entry_length(data, at, version):
-    """The length of the entry of a log that begins at a place."""
-    kind, signature = data[at], SIGNATURE[version]
-    if kind == 2:
-        return 3 + data[at + 2] + signature
-    if kind == 3:
-        return 4 + data[at + 3]
-    if kind == 4:
-        return 4 + data[at + 3] * (1 + signature)
-    return 3 if kind == 1 else 4
-
-
-def small_in_entry(data, at, version):
-    """The places of an entry's bytes that are not of signatures."""
-    length = entry_length(data, at, version)
-    if data[at] == 2:
-        return range(at, at + length - SIGNATURE[version])
-    if data[at] == 4:
-        return [*range(at, at + 4), *range(at + 4, at + length, 1 + SIGNATURE[version])]
-    return range(at, at + length)
+        faulty, exhibits = read_set(int.from_bytes(self.faulty, "big")), [Exhibit(*exhibit) for exhibit in self.exhibits]
+        return dataclasses.replace(self.read, faulty=faulty, walks=self.walks, exhibits=exhibits).spell()
 
 
 class Log:
-    """A log in its parts."""
+    """A log in its parts: the reference's, and the bytes of the entries and of the last signature, which may be changed."""
 
-    def __init__(self, data, version):
-        self.run, self.entries, at = data[:RUN_ID], [], RUN_ID + 8
-        for _ in range(int.from_bytes(data[RUN_ID:at], "big")):
-            end = at + entry_length(data, at, version)
-            self.entries.append(data[at:end])
-            at = end
-        self.head = data[at:]
+    def __init__(self, data, header):
+        self.read = read_log(data, header)
+        self.entries, self.head = [entry.spell() for entry in self.read.entries], self.read.signature
 
     def spell(self):
-        return self.run + len(self.entries).to_bytes(8, "big") + b"".join(self.entries) + self.head
+        return self.read.run_id + len(self.entries).to_bytes(8, "big") + b"".join(self.entries) + self.head
 
 
-def small_in_log(data, version):
-    """The places of a log's bytes that are neither of its run id nor of signatures."""
-    places, at = list(range(RUN_ID, RUN_ID + 8)), RUN_ID + 8
-    for _ in range(int.from_bytes(data[RUN_ID:at], "big")):
-        places += small_in_entry(data, at, version)
-        at += entry_length(data, at, version)
-    return places
+def long_parts(value, header):
+    """The roots, run ids and signatures of what the reference has read, in the order of its bytes."""
+    if isinstance(value, (list, tuple)):
+        return [part for it in value for part in long_parts(it, header)]
+    found = []
+    for name in (it.name for it in dataclasses.fields(value)) if dataclasses.is_dataclass(value) else ():
+        inner = getattr(value, name)
+        if name in LONG:
+            found += [inner] if isinstance(inner, bytes) else inner
+        else:
+            found += long_parts(read_log(inner, header) if name in LOGS else inner, header)
+    return found
 
 
-def text_length(data, at):
-    """The length of a text of evidence, without its signature."""
-    return 41 if data[at] == 2 else 3 + data[at + 2]
+def small_places(data, read):
+    """The places of the small bytes of a file, of which this was read."""
+    places, at = [], 0
+    for part in long_parts(read, read.header):
+        begin = data.index(part, at)
+        places += range(at, begin)
+        at = begin + len(part)
+    return [*places, *range(at, len(data))]
+
+
+def small_in_bundle(data):
+    return small_places(data, read_bundle(data))
 
 
 def small_in_evidence(data):
-    """The places of a piece of evidence that are neither of roots nor of signatures nor of run ids."""
-    version, at = version_of(data), front_length(data)
-    signature, kind = SIGNATURE[version], data[at + 1]
-    places = [*small_front(data), at, at + 1]
-    at += 2
-    if kind == 2:
-        return [*places, at, at + 1 + signature]
-    if kind in (3, 4):
-        length = int.from_bytes(data[at : at + 4], "big")
-        places += [*range(at, at + 4), *(at + 4 + place for place in small_in_log(data[at + 4 : at + 4 + length], version))]
-        at += 4 + length
-    while at < len(data):
-        length = text_length(data, at) if kind in (1, 3) else len(data) - at
-        places += range(at, at + length)
-        at += length + signature
-    return places
+    return small_places(data, read_evidence(data))
 
 
 def ends_of_parts(places, length):

@@ -1,8 +1,8 @@
 """The library of nodes for C (embed/sm_node.h), driven through whole runs by calls: what each node sends, keeps and decides is
 what the program's run has, byte for byte.
 
-The frames of a run are put together of its logs, by docs/FORMATS.md: a SEND says which chain goes where, and a SIGN and a RECV
-say which bytes it has. So each node is driven alone, with the frames that the run has for it, a traitor's too. The runs are small
+The frames of a run are put together of its logs, which the reference reads: a SEND says which chain goes where, and a SIGN and
+a RECV say which bytes it has. So each node is driven alone, with the frames that the run has for it, a traitor's too. The runs are small
 ones, and those with the most that nodes send, hear and hand on: 16 rounds, 15 neighbours, frames of 15 chains, chains of 15
 signers that count and of 16 that can't, and 64 logs. Two nodes hand frames to each other. Roots of seeds are those of the
 reference. What a node refuses is told by its number, the first of several. The calls are made by ctypes, in a thread with
@@ -12,18 +12,19 @@ import collections
 import ctypes
 import hashlib
 import os
-import shutil
+import struct
 import tempfile
 
-from embed import IsNotBuilt
-from layout import MARK, SIGNATURE, Bundle, Log
+from layout import MARK, Bundle
 from nodes import BAD, DONE, NO_ORDER, SHORT, Library, with_little_stack
-from processes import ARCHIVE, seed_of
+from processes import seed_of, try_with_library
 from programs import End, differs, fault, run
 from reference import root_digits
 from scenarios import chain, everybody, scenario
+from model.chain import Chain
+from model.keys import height_of, signature_length
+from model.log import Recv, Send, Sign, read_log
 
-SIGN, SEND, RECV = 2, 3, 4
 # The numbers of faults in sm_node.h: there is no node, and those of frames and of bundles behind F0 and B0.
 NO_GENERAL, OTHER_ROOT, F0, B0 = 13, 14, 20, 40
 # The seeds of two nodes that are of no scenario.
@@ -45,7 +46,8 @@ LARGEST = {"edges": everybody(16), "traitors": 8, "diameter": 8, "order": 14, "o
 FIFTEEN_SIGNERS, LONGEST_FRAME = 248_657, 3_978_611
 # In the last of 16 rounds general 14 sends general 15 such a chain of each order, whose signatures are zeros, and nobody sends
 # anything else.
-ZERO_CHAINS = [bytes([order, 16]) + b"".join(bytes([it]) + bytes(SIGNATURE[2]) for it in range(16)) for order in range(15)]
+ZEROS = (bytes(signature_length(height_of(2))),) * 16
+ZERO_CHAINS = [Chain(order, tuple(range(16)), ZEROS).spell() for order in range(15)]
 RAW = {0: [], 14: [f"raw 16 15 {parcel.hex()}" for parcel in ZERO_CHAINS]}
 LATE = {"edges": everybody(16), "traitors": 1, "diameter": 15, "order": 1, "orders": 15, "slot": 3, "scripts": RAW}
 
@@ -84,8 +86,15 @@ class Node:
         return self.fault.value
 
     def begin(self, header, general, seed, order=NO_ORDER):
-        """Makes the node, and tells the fault."""
-        return self.call("new", header, ctypes.c_size_t(len(header)), general, seed, order, faulty=True)
+        """Makes the node of keys of its own, and tells the fault."""
+        with Node(self.library) as keys:
+            keys.call("keys", seed, header[0], ctypes.create_string_buffer(32))
+            return self.make(header, general, keys, order)
+
+    def make(self, header, general, keys, order=NO_ORDER):
+        """Makes the node of keys, and tells the fault."""
+        ends = ctypes.byref(keys.place), order
+        return self.call("new", header, ctypes.c_size_t(len(header)), general, *ends, faulty=True)
 
     def hear(self, sender, data):
         """Hands in bytes, and tells the fault."""
@@ -125,17 +134,27 @@ def bundle_of(library, header, faulty, exhibits):
     told, whole = ctypes.c_uint32(77), b"".join(log for _, log in exhibits)
     sizes = b"".join(general.to_bytes(8, "little") + len(log).to_bytes(8, "little") for general, log in exhibits)
     lengths = [ctypes.c_size_t(it) for it in (len(header), len(exhibits), len(whole))]
-    words = header, lengths[0], faulty, sizes, lengths[1], whole, lengths[2]
+    words = header, lengths[0], faulty, 0, sizes, lengths[1], whole, lengths[2]
+    pair = (ctypes.c_uint32 * 2)()
     try:
-        return text_of(library, "sm_node_bundle", *words, ends=[ctypes.byref(told)])
+        return text_of(library, "sm_node_bundle", *words, ends=[ctypes.byref(told), ctypes.byref(pair)])
     except Wrong:
         return told.value
+
+
+def head_of(library, data):
+    """The head of a frame: its run id and its numbers."""
+    told, head = ctypes.c_uint32(77), ctypes.create_string_buffer(48)
+    ends = head, ctypes.byref(told)
+    same("sm_node_frame_head", library.call("sm_node_frame_head", data, ctypes.c_size_t(len(data)), *ends), DONE)
+    return (head.raw[:32], *struct.unpack("=4I", head.raw[32:]))
 
 
 def root_of(library, seed, version):
     """The root of a seed."""
     root = ctypes.create_string_buffer(32)
-    same("sm_node_root", library.call("sm_node_root", seed, version, root), DONE)
+    with Node(library) as keys:
+        keys.call("keys", seed, version, root)
     return root.raw
 
 
@@ -165,26 +184,17 @@ def run_id_of(header):
     return hashlib.sha256(b"\x31" + header).digest()
 
 
-def chain_in(entry, version):
-    """The chain of a RECV: its order, its path and its bytes."""
-    data, width = entry[2:], 1 + SIGNATURE[version]
-    return data[0], bytes(data[2 + place * width] for place in range(data[1])), data
-
-
-def parcels_of(log, version):
-    """What a general sent: for each SEND its round, its receiver and the bytes of its chain. These are the bytes of the chain
-    that was received, with the general's own signature behind them."""
-    chains = {}
-    for entry in Log(log, version).entries:
-        if entry[0] == RECV:
-            order, path, data = chain_in(entry, version)
-            chains[order, path] = data
-        elif entry[0] == SIGN:
-            order, path = entry[1], entry[3 : 3 + entry[2]]
-            before = chains[order, path[:-1]][2:] if path[:-1] else b""
-            chains[order, path] = bytes([order, len(path)]) + before + path[-1:] + entry[3 + len(path) :]
-        elif entry[0] == SEND:
-            yield entry[3], entry[1], chains[entry[2], entry[4:]]
+def parcels_of(log, header):
+    """What a general sent: for each SEND its round, its receiver and the bytes of its chain. This is the chain that was received,
+    with the general's own signature behind it."""
+    chains = {(order, ()): Chain(order, (), ()) for order in range(header.network.orders)}
+    for entry in read_log(log, header).entries:
+        if isinstance(entry, Recv):
+            chains[entry.chain.order, entry.chain.path] = entry.chain
+        elif isinstance(entry, Sign):
+            chains[entry.order, entry.path] = chains[entry.order, entry.path[:-1]].longer(entry.path[-1], entry.signature)
+        elif isinstance(entry, Send):
+            yield len(entry.path), entry.to, chains[entry.order, entry.path].spell()
 
 
 class Run:
@@ -202,7 +212,7 @@ class Run:
         self.ways = [*edges, *((b, a) for a, b in edges)]
         self.parcels = collections.defaultdict(list)
         for general, log in self.exhibits:
-            for number, to, parcel in parcels_of(log, bundle.version):
+            for number, to, parcel in parcels_of(log, bundle.header):
                 self.parcels[number, general, to].append(parcel)
 
     def near(self, general):
@@ -215,19 +225,20 @@ class Run:
         """The bytes of a frame of this run."""
         return frame(run_id_of(self.header), number, sender, to, self.parcels.get((number, sender, to), ()))
 
-    def starting(self, library, general):
-        """A node of this run before the first round."""
+    def starting(self, library, general, keys=None):
+        """A node of this run before the first round, of these keys or of its own."""
         node = Node(library)
         order = self.order if general == 0 else NO_ORDER
-        same("the fault of a node", node.begin(self.header, general, seed_of(general), order), 0)
+        begin, given = (node.begin, seed_of(general)) if keys is None else (node.make, keys)
+        same("the fault of a node", begin(self.header, general, given, order), 0)
         return node
 
 
-def drive(library, of, general):
+def drive(library, of, general, keys=None):
     """Drives a node alone with the frames of a run. What it sends, keeps and decides has to be what the run has. The log, and how
     many bytes were sent."""
     near, sent = of.near(general), 0
-    with of.starting(library, general) as node:
+    with of.starting(library, general, keys) as node:
         for number in range(1, of.rounds + 1):
             node.call("begin_round")
             same("the round", node.number("round"), number)
@@ -236,6 +247,8 @@ def drive(library, of, general):
                 same("the fault of a frame", node.hear(other, of.frame(number, other, general)), 0)
                 told = node.text("send", other)
                 same(f"frame {number} from {general} to {other}", told, of.frame(number, general, other))
+                count = len(of.parcels.get((number, general, other), ()))
+                same("its head", head_of(library, told), (run_id_of(of.header), number, general, other, count))
                 sent += len(told)
             node.call("end_round")
         log, order = node.end()
@@ -253,6 +266,19 @@ def drive_all(library, of, generals=None):
 
 def try_pair(program, library):
     drive_all(library, Run(program, **PAIR))
+
+
+def try_slots(program, library):
+    """One set of keys for each node, which serves the runs of all slots. A node of the next slot may stand beside it."""
+    runs = [Run(program, **{**PAIR, "slot": slot}) for slot in range(4)]
+    for general in range(2):
+        with Node(library) as keys:
+            keys.call("keys", seed_of(general), 2, ctypes.create_string_buffer(32))
+            for of in runs[:2]:
+                drive(library, of, general, keys)
+            with runs[2].starting(library, general, keys) as node:
+                drive(library, runs[3], general, keys)
+                node.call("begin_round")
 
 
 def try_split(program, library):
@@ -426,6 +452,7 @@ def try_bundles(program, library):
 
 TRIALS = {
     "two in slot 2": try_pair,
+    "keys for all slots": try_slots,
     "two orders told": try_split,
     "chains of 15 signers": try_line,
     "15 neighbours, 16 rounds": try_largest,
@@ -447,16 +474,11 @@ def wrong_of(trial, program, library):
     return None if library.blocks.value == 0 else f"{library.blocks.value} blocks are left"
 
 
+def try_library(program, tally, library):
+    for name, trial in TRIALS.items():
+        tally.hold(name, with_little_stack(wrong_of, trial, program, library))
+    tally.count(29 + len(ANY_SEEDS) * len(ROOTS))
+
+
 def trials(program, tally):
-    if not os.path.exists(ARCHIVE) or not shutil.which("cc"):
-        tally.note("left out: cc or crates/sm_node/out/libsm_node.a is not there")
-        return
-    with tempfile.TemporaryDirectory() as folder:
-        try:
-            library = Library(folder)
-        except IsNotBuilt as told:
-            tally.fail(str(told))
-            return
-        for name, trial in TRIALS.items():
-            tally.hold(name, with_little_stack(wrong_of, trial, program, library))
-        tally.count(28 + len(ANY_SEEDS) * len(ROOTS))
+    try_with_library(tally, lambda folder: try_library(program, tally, Library(folder)))

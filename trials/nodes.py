@@ -9,17 +9,17 @@ little stack.
 """
 import concurrent.futures
 import ctypes
+import hashlib
 import os
 import shutil
 import socket
-import tempfile
+import struct
 import threading
-import time
 
-from embed import ARCHIVE as JOBS, EMBED, IsNotBuilt, SANITIZERS, STACK, TOP, WARNINGS, do
+from embed import ARCHIVE as JOBS, EMBED, SANITIZERS, STACK, TOP, WARNINGS, do
 from layout import Bundle
 from processes import ARCHIVE, FOUR, OF_C, PARTS, SIXTEEN, Way, build_programs, make_header, run_id_of, sanitized, seed_of
-from processes import try_system, write_seeds
+from processes import try_system, try_with_library, write_seeds
 from programs import run, side_by_side
 from scenarios import chain, scenario
 
@@ -33,8 +33,10 @@ BOTH = r"""
 int main(void) {
     const uint8_t seed[33] = SEED;
     uint8_t root[32], room[100];
+    sm_node keys = {0};
     size_t count;
-    if (sm_audit(seed, 0, room, sizeof room, &count) != SM_FAULT || sm_node_root(seed, 1, root) != SM_OK) return 1;
+    if (sm_audit(seed, 0, room, sizeof room, &count) != SM_FAULT || sm_node_keys(&keys, seed, 1, root) != SM_OK) return 1;
+    sm_node_free(&keys);
     for (int place = 0; place < 32; place++) printf("%02x", root[place]);
     printf("\n%.*s\n", (int)count, (const char *)room);
     return 0;
@@ -204,17 +206,22 @@ class Run:
         """The bytes of a header of the two, by the roots of their keys."""
         roots = b""
         for general in range(2):
-            root = ctypes.create_string_buffer(32)
-            self.want(DONE, "sm_node_root", seed_of(general), version, root)
-            roots += root.raw
+            keys, root = self.keys(seed_of(general), version)
+            self.library.call("sm_node_free", ctypes.byref(keys))
+            roots += root
         return self.header_of(DONE, (version, slot, 2, 0, 1, 2, 0), [(1, 0)], roots)
+
+    def keys(self, seed, version, status=DONE):
+        """Keys, and their root."""
+        place, root = ctypes.c_void_p(None), ctypes.create_string_buffer(b"\7" * 32, 32)
+        self.want(status, "sm_node_keys", ctypes.byref(place), seed, version, root)
+        return place, root.raw
 
     def header_of(self, status, of, edges, roots):
         """The bytes of a header, or none."""
         ends = b"".join(map(bytes, edges))
         sizes = ctypes.c_size_t(len(edges)), ctypes.c_size_t(len(roots) // 32)
-        more = [ctypes.byref(self.pair)]
-        return self.text(status, "sm_node_header", bytes(of), ends, sizes[0], roots, sizes[1], tail=True, more=more)
+        return self.text(status, "sm_node_header", bytes(of), ends, sizes[0], roots, sizes[1], tail=True)
 
     def do(self, name, *words):
         """The status of a call; where memory is refused it is made again until it is not."""
@@ -228,9 +235,9 @@ class Run:
         if told != status:
             self.wrong.append(f"{name} answers {told}, not {status}")
 
-    def text(self, status, name, *words, tail=False, more=()):
-        """The bytes of a call, which has to answer so; where it has a tail, a fault is told too, and more behind it."""
-        count, ends = ctypes.c_size_t(77), [ctypes.byref(self.fault), *more] if tail else []
+    def text(self, status, name, *words, tail=False):
+        """The bytes of a call, which has to answer so; where it has a tail, a fault is told too, and a pair behind it."""
+        count, ends = ctypes.c_size_t(77), [ctypes.byref(self.fault), ctypes.byref(self.pair)] if tail else []
         self.want(SHORT if status == DONE else status, name, *words, b"", ctypes.c_size_t(0), ctypes.byref(count), *ends)
         if status != DONE:
             return b""
@@ -244,13 +251,18 @@ class Run:
     def at(self, general):
         return ctypes.byref(self.nodes[general])
 
-    def begin(self, general, status=DONE, header=None, order=None, seed=None):
-        """A node is made, or not."""
+    def begin(self, general, status=DONE, header=None, order=None, seed=None, version=1):
+        """A node is made of keys of its own, or not."""
+        keys, _ = self.keys(seed_of(general) if seed is None else seed, version)
+        self.make(general, keys, status, header, order)
+        self.library.call("sm_node_free", ctypes.byref(keys))
+
+    def make(self, general, keys, status=DONE, header=None, order=None):
+        """A node is made of keys, or not."""
         given = self.header if header is None else header
         order = (1 if general == 0 else NO_ORDER) if order is None else order
-        seed = seed_of(general) if seed is None else seed
-        size = ctypes.c_size_t(len(given))
-        self.want(status, "sm_node_new", self.at(general), given, size, general, seed, order, ctypes.byref(self.fault))
+        ends = ctypes.byref(keys), order, ctypes.byref(self.fault)
+        self.want(status, "sm_node_new", self.at(general), given, ctypes.c_size_t(len(given)), general, *ends)
 
     def hear(self, to, given, status=DONE, sender=None):
         """Bytes are handed in as of the other."""
@@ -262,6 +274,11 @@ class Run:
         """The last call told this fault."""
         if self.fault.value != fault:
             self.wrong.append(f"the fault {self.fault.value}, not {fault}")
+
+    def apart(self, pair):
+        """The last call told this pair."""
+        if list(self.pair) != pair:
+            self.wrong.append(f"the pair {list(self.pair)}, not {pair}")
 
     def all_calls(self):
         """The run of the two, whose logs are its answer."""
@@ -322,13 +339,27 @@ class Run:
         self.want(DONE, "sm_node_order", self.at(general), ctypes.byref(order))
         return order.value
 
-    def bundle(self, status, logs, faulty=0, generals=(0, 1), cut=0, call="sm_node_bundle"):
+    def heads(self, given):
+        """The head of a frame, as its run id and its numbers, or the fault. What was there stays where there is a fault."""
+        head = ctypes.create_string_buffer(b"\7" * 48, 48)
+        status = self.do("sm_node_frame_head", given, ctypes.c_size_t(len(given)), head, ctypes.byref(self.fault))
+        if status == BAD and head.raw == b"\7" * 48:
+            return self.fault.value
+        return (head.raw[:32], *struct.unpack("=4I", head.raw[32:])) if (status, self.fault.value) == (DONE, 0) else None
+
+    def run_id(self, status=DONE):
+        """The run id of the header. What was there stays where the call is not done."""
+        told = ctypes.create_string_buffer(b"\7" * 32, 32)
+        self.want(status, "sm_node_run_id", self.header, ctypes.c_size_t(len(self.header)), told, ctypes.byref(self.fault))
+        return told.raw
+
+    def bundle(self, status, logs, faulty=0, generals=(0, 1), cut=0, parted=0):
         """The bytes of a bundle, or none."""
         sizes = b"".join(g.to_bytes(8, "little") + len(log).to_bytes(8, "little") for g, log in zip(generals, logs))
         whole = b"".join(logs)
         whole = whole[: len(whole) - cut]
-        words = (self.header, ctypes.c_size_t(len(self.header)), faulty, sizes, ctypes.c_size_t(len(logs)))
-        return self.text(status, call, *words, whole, ctypes.c_size_t(len(whole)), tail=True)
+        words = (self.header, ctypes.c_size_t(len(self.header)), faulty, parted, sizes, ctypes.c_size_t(len(logs)))
+        return self.text(status, "sm_node_bundle", *words, whole, ctypes.c_size_t(len(whole)), tail=True)
 
     def free(self):
         for general in range(2):
@@ -359,13 +390,44 @@ def nothing_there(two):
 def bad_beginnings(two):
     """Nodes that don't begin, with the fault, and one that stands already."""
     cases = [({"header": b""}, 9), ({"header": b"\3" + two.header[1:]}, 10), ({"header": two.header + b"\0"}, 12)]
-    cases += [({"order": NO_ORDER}, 13), ({"order": 2}, 13), ({"seed": seed_of(1)}, 14)]
+    cases += [({"order": NO_ORDER}, 13), ({"order": 2}, 13), ({"seed": seed_of(1)}, 14), ({"version": 2}, 16)]
     for words, fault in cases:
         two.begin(0, BAD, **words)
         two.told(fault)
     two.begin(0, MISUSE, order=16)
     two.begin(0)
     two.begin(0, MISUSE)
+
+
+def all_slots(two):
+    """One set of keys makes a node in each slot but those that are not above the last. It is no node, and no node is keys."""
+    headers, (keys, root) = [two.make_header(2, slot) for slot in range(4)], two.keys(seed_of(0), 2)
+    two.make(0, keys, BAD, headers[0], 2)
+    two.told(13)
+    for slot, fault in ((0, 0), (0, 17), (2, 0), (0, 17), (1, 17), (2, 17), (3, 0), (3, 17)):
+        two.make(0, keys, BAD if fault else DONE, headers[slot])
+        two.told(fault)
+        two.library.call("sm_node_free", two.at(0))
+    two.want(MISUSE, "sm_node_keys", ctypes.byref(keys), seed_of(0), 2, ctypes.create_string_buffer(32))
+    two.want(MISUSE, "sm_node_begin_round", ctypes.byref(keys))
+    two.want(MISUSE, "sm_node_finish", ctypes.byref(keys))
+    two.number(MISUSE, "sm_node_round", ctypes.byref(keys))
+    two.make(0, ctypes.c_void_p(None), MISUSE, headers[3])
+    two.library.call("sm_node_free", ctypes.byref(keys))
+    if root != headers[0][-64:-32]:
+        two.wrong.append("another root")
+    keys, _ = two.keys(seed_of(0), 1)
+    for fault in (0, 17):
+        two.make(0, keys, BAD if fault else DONE)
+        two.told(fault)
+        two.make(0, two.nodes[0], MISUSE, headers[3]) if fault else None
+        two.library.call("sm_node_free", two.at(0))
+    two.make(0, keys, BAD, headers[1])
+    two.told(16)
+    two.library.call("sm_node_free", ctypes.byref(keys))
+    for version in (0, 3, 2**32 - 1):
+        if two.keys(seed_of(0), version, MISUSE)[1] != b"\7" * 32:
+            two.wrong.append("the root of keys that are not there")
 
 
 def bad_rounds(two):
@@ -392,6 +454,12 @@ def bad_rounds(two):
     two.hear(1, frame)
     two.hear(1, frame, BAD)
     two.told(22)
+    heads = [(frame, (two.run_id(), 1, 0, 1, 1)), (frame[:41], (two.run_id(), 1, 0, 1, 1)), (b"", 23), (frame[:40], 23)]
+    heads += [(b"SMF", 23), (b"SMF2", 24), (b"SMF2" + frame[4:], 24), (bytes(50), 24)]
+    heads += [(b"SMF1" + bytes(range(32)) + b"\xff\xfe\xfd\xfc\xfb", (bytes(range(32)), 255, 254, 253, 0xFCFB))]
+    for given, wanted in heads:
+        if two.heads(given) != wanted:
+            two.wrong.append(f"the head {two.heads(given)}, not {wanted}")
 
 
 def bad_ends(two):
@@ -413,6 +481,7 @@ def bad_ends(two):
     ):
         two.bundle(status, **words)
         two.told(fault)
+        two.apart([0, 0])
 
 
 def bad_walks(two):
@@ -422,13 +491,21 @@ def bad_walks(two):
     for faulty, fault in ((2, 31), (0, 32)):
         two.bundle(BAD, [], faulty)
         two.told(fault)
-        made = two.bundle(DONE, [], faulty, call="sm_node_bundle_parted")
-        if made != b"SMB1" + two.header + bytes([0, faulty, 0, 0]):
-            two.wrong.append(f"a parted bundle {made[4 + len(two.header) :]}")
-    if two.bundle(DONE, [], 4, call="sm_node_bundle_parted") != two.bundle(DONE, [], 4):
+        two.apart([0, 2])
+        for parted in (1, 2**32 - 1):
+            made = two.bundle(DONE, [], faulty, parted=parted)
+            if made != b"SMB1" + two.header + bytes([0, faulty, 0, 0]):
+                two.wrong.append(f"a parted bundle {made[4 + len(two.header) :]}")
+            two.apart([0, 0])
+    if two.bundle(DONE, [], 4, parted=1) != two.bundle(DONE, [], 4):
         two.wrong.append("a bundle that is not parted is another")
-    two.bundle(BAD, [], 8, call="sm_node_bundle_parted")
+    two.bundle(BAD, [], 8, parted=1)
     two.told(44)
+    two.header = two.header_of(DONE, (1, 0, 4, 0, 1, 2, 0), [(0, 1), (0, 2), (0, 3)], bytes(range(128)))
+    for faulty, fault, pair in ((0, 32, [1, 2]), (1, 31, [1, 2]), (4, 32, [1, 3]), (3, 31, [2, 3])):
+        two.bundle(BAD, [], faulty)
+        two.told(fault)
+        two.apart(pair)
 
 
 def plans(two):
@@ -439,7 +516,12 @@ def plans(two):
         if two.plan(general=general) != wanted:
             two.wrong.append(f"the plan {two.plan(general=general)}, not {wanted}")
     two.tell(MISUSE, "sm_node_neighbours", two.header, ctypes.c_size_t(len(two.header)), 16, kind=ctypes.c_uint32)
+    if two.run_id() != hashlib.sha256(b"\x31" + two.header).digest():
+        two.wrong.append("the run id is another")
     two.header += b"\0"
+    if two.run_id(BAD) != b"\7" * 32:
+        two.wrong.append("a run id of bytes that are no header")
+    two.told(12)
     if two.plan(BAD) != (b"\7" * 7, 0, 0, 0):
         two.wrong.append(f"the plan of bytes that are no header {two.plan(BAD)}")
     two.told(12)
@@ -448,9 +530,7 @@ def plans(two):
 def misuse_wrong(library):
     """None where calls that may not be made answer so."""
     two = Run(library, False)
-    for name, version in (("sm_node_root", 0), ("sm_node_root", 3)):
-        two.want(MISUSE, name, seed_of(0), version, ctypes.create_string_buffer(32))
-    for step in (nothing_there, bad_beginnings, bad_rounds, bad_ends, bad_walks, plans):
+    for step in (nothing_there, all_slots, bad_beginnings, bad_rounds, bad_ends, bad_walks, plans):
         step(two)
     two.free()
     return "; ".join(two.wrong) or (None if library.blocks.value == 0 else f"{library.blocks.value} blocks are left")
@@ -517,8 +597,7 @@ def header_wrong(library):
     for roots, pair in ((bytes(96), [0, 1]), (bytes(range(32)) + bytes(64), [1, 2]), (bytes(32) + bytes(range(32)) + bytes(32), [0, 2])):
         two.header_of(BAD, (1, 0, 3, 0, 1, 2, 0), [(0, 1)], roots)
         two.told(15)
-        if list(two.pair) != pair:
-            two.wrong.append(f"the pair {list(two.pair)}, not {pair}")
+        two.apart(pair)
     return "; ".join(two.wrong) or None
 
 
@@ -560,12 +639,4 @@ def try_built(program, tally, folder):
 
 
 def trials(program, tally):
-    if not os.path.exists(ARCHIVE) or not shutil.which("cc"):
-        tally.note("left out: cc or crates/sm_node/out/libsm_node.a is not there")
-        return
-    # A socket's address is short, so the folder has to be.
-    with tempfile.TemporaryDirectory(dir="/tmp") as folder:
-        try:
-            try_built(program, tally, folder)
-        except IsNotBuilt as told:
-            tally.fail(str(told))
+    try_with_library(tally, lambda folder: try_built(program, tally, folder))

@@ -93,9 +93,12 @@ static int answers(void) {
 /* So do the calls on headers, nodes and bundles. */
 static int nodes(void) {
     const uint8_t seed[SM_SEED_BYTES] = {0};
+    uint8_t root[SM_ROOT_BYTES];
     const sm_numbers numbers = {1, 0, 2, 0, 1, 2, 0};
     sm_numbers told = numbers;
-    sm_node node = {0};
+    uint8_t id[SM_RUN_ID_BYTES] = {77};
+    sm_node node = {0}, keys = {0};
+    sm_frame_head head = {{77}, 77, 77, 77, 77};
     sm_pair pair = {77, 77};
     uint32_t fault = 77, number = 77;
     size_t count = 77;
@@ -104,8 +107,10 @@ static int nodes(void) {
     WANT(sm_node_header(&numbers, NULL, 1, NULL, 0, NULL, 0, &count, &fault, &pair) == SM_MISUSE && fault == 0);
     WANT(sm_node_header(&numbers, NULL, 0, NULL, 1, NULL, 0, &count, &fault, &pair) == SM_MISUSE && fault == 0);
     WANT(sm_node_header(&numbers, NULL, 0, NULL, 0, NULL, 1, &count, &fault, &pair) == SM_MISUSE && fault == 0);
-    WANT(sm_node_new(&node, NULL, 0, 0, seed, 1, &fault) == SM_FAULT && fault == SM_H9);
-    WANT(sm_node_new(&node, NULL, 1, 0, seed, 1, &fault) == SM_MISUSE && fault == 0);
+    WANT(sm_node_keys(&keys, seed, 1, root) == SM_OK);
+    WANT(sm_node_new(&node, NULL, 0, 0, &keys, 1, &fault) == SM_FAULT && fault == SM_H9);
+    WANT(sm_node_new(&node, NULL, 1, 0, &keys, 1, &fault) == SM_MISUSE && fault == 0);
+    sm_node_free(&keys);
     WANT(sm_node_send(&node, 1, NULL, 0, &count) == SM_MISUSE && count == 0);
     WANT(sm_node_hear(&node, 1, NULL, 0, &fault) == SM_MISUSE && fault == 0);
     WANT(sm_node_log(&node, NULL, 0, &count) == SM_MISUSE && count == 0);
@@ -114,11 +119,13 @@ static int nodes(void) {
     WANT(sm_node_lacks(&node, 1, &number) == SM_MISUSE && number == 0);
     WANT(sm_node_may_end(&node, &number) == SM_MISUSE && number == 0);
     WANT(sm_node_is_over(&node, &number) == SM_MISUSE && number == 0);
-    WANT(sm_node_bundle(NULL, 0, 0, NULL, 0, NULL, 0, NULL, 0, &count, &fault) == SM_FAULT && fault == SM_H9);
-    WANT(sm_node_bundle(NULL, 0, 0, NULL, 1, NULL, 0, NULL, 0, &count, &fault) == SM_MISUSE && fault == 0);
-    WANT(sm_node_bundle(NULL, 0, 0, NULL, 0, NULL, 1, NULL, 0, &count, &fault) == SM_MISUSE && fault == 0);
-    WANT(sm_node_bundle_parted(NULL, 0, 0, NULL, 0, NULL, 0, NULL, 0, &count, &fault) == SM_FAULT && fault == SM_H9);
-    WANT(sm_node_bundle_parted(NULL, 1, 0, NULL, 0, NULL, 0, NULL, 0, &count, &fault) == SM_MISUSE && fault == 0);
+    pair = (sm_pair){77, 77};
+    WANT(sm_node_bundle(NULL, 0, 0, 0, NULL, 0, NULL, 0, NULL, 0, &count, &fault, &pair) == SM_FAULT && fault == SM_H9);
+    WANT(pair.first == 0 && pair.second == 0);
+    WANT(sm_node_bundle(NULL, 1, 0, 0, NULL, 0, NULL, 0, NULL, 0, &count, &fault, &pair) == SM_MISUSE && fault == 0);
+    WANT(sm_node_bundle(NULL, 0, 0, 0, NULL, 1, NULL, 0, NULL, 0, &count, &fault, &pair) == SM_MISUSE && fault == 0);
+    WANT(sm_node_bundle(NULL, 0, 0, 1, NULL, 0, NULL, 1, NULL, 0, &count, &fault, &pair) == SM_MISUSE && fault == 0);
+    WANT(sm_node_bundle(NULL, 0, 0, 1, NULL, 0, NULL, 0, NULL, 1, &count, &fault, &pair) == SM_MISUSE && fault == 0);
     WANT(sm_node_header_numbers(NULL, 0, &told, &fault) == SM_FAULT && fault == SM_H9 && told.orders == 2);
     WANT(sm_node_header_numbers(NULL, 1, &told, &fault) == SM_MISUSE && fault == 0 && told.orders == 2);
     WANT(sm_node_rounds(NULL, 0, &number, &fault) == SM_FAULT && fault == SM_H9 && number == 0);
@@ -127,6 +134,10 @@ static int nodes(void) {
     WANT(sm_node_neighbours(NULL, 1, 0, &number, &fault) == SM_MISUSE && fault == 0);
     WANT(sm_node_frame_most(NULL, 0, &count, &fault) == SM_FAULT && fault == SM_H9 && count == 0);
     WANT(sm_node_frame_most(NULL, 1, &count, &fault) == SM_MISUSE && fault == 0);
+    WANT(sm_node_run_id(NULL, 0, id, &fault) == SM_FAULT && fault == SM_H9 && id[0] == 77);
+    WANT(sm_node_run_id(NULL, 1, id, &fault) == SM_MISUSE && fault == 0);
+    WANT(sm_node_frame_head(NULL, 0, &head, &fault) == SM_FAULT && fault == SM_F3 && head.round == 77);
+    WANT(sm_node_frame_head(NULL, 1, &head, &fault) == SM_MISUSE && fault == 0);
     return 0;
 }
 
@@ -144,14 +155,11 @@ static int equal_roots(void) {
 
 /* No text is none of a verdict, and no decision, and the old names stand for the new ones. */
 static int names(void) {
-    const uint8_t seed[SM_SEED_BYTES] = {0};
-    uint8_t root[SM_ROOT_BYTES], same[SM_ROOT_BYTES];
     sm_judgement judgement;
     sm_run_decision decisions[SM_GENERALS_MOST];
     uint32_t number = 77, fault = 77;
     WANT(sm_read_judgement(NULL, 0, &judgement) == SM_FAULT);
     WANT(sm_read_decisions(NULL, 0, decisions, &number) == SM_OK && number == 0);
-    WANT(sm_root(seed, 1, root) == SM_OK && sm_node_root(seed, 1, same) == SM_OK && memcmp(root, same, sizeof root) == 0);
     WANT(sm_rounds(NULL, 1, &number, &fault) == SM_MISUSE && sm_fault_text(SM_F1) == sm_node_fault_text(SM_F1));
     return 0;
 }

@@ -30,6 +30,7 @@ from worked import stored
 
 HERE = os.path.dirname(os.path.abspath(__file__))
 TOP = os.path.dirname(HERE)
+ROWS = os.path.join(TOP, "crates", "rows", "data")
 MAKER = os.path.join(TOP, "embed", "page", "make_page.py")
 # How the line begins by which the maker refuses a kit that it was not tried with.
 OF_ANOTHER_KIT = "make_page.py: the toolchain is "
@@ -332,6 +333,8 @@ def named_files(program):
         "bent.bundle": turned(bundle, len(bundle) - 1),
         "cut.bundle": bundle[:1000],
         "header.bundle": turned(bundle, 8),
+        "parted.bundle": read(ROWS, "cut.bundle"),
+        "one_root.bundle": read(ROWS, "one_root.bundle"),
         "explained.bundle": explained,
         **{f"explained.{general}.evidence": accused(general) for general in (0, 1)},
         "bent.evidence": turned(evidence, len(evidence) - 1),
@@ -401,6 +404,9 @@ def try_facts(program, told, files, tally):
     tally.hold("the run", None if {it: facts.get(it) for it in wanted} == wanted else f"{facts}")
     tables = told["split.bundle"]["tables"]
     tally.hold("the generals", None if tables == [SPLIT] else f"{tables}")
+    warned = {name: [it.split(":")[0] for it in told[name]["warnings"]] for name in told if told[name]["warnings"]}
+    wanted = {"parted.bundle": ["No walk"], "one_root.bundle": ["Equal roots"]}
+    tally.hold("warnings", None if warned == wanted else f"{warned}")
     count = len(told["series.bundles"]["tables"])
     tally.hold("the runs of a campaign", None if count == 4 else f"{count} tables")
     for name, sides in SIDES.items():

@@ -9,6 +9,7 @@ const answers = () => [...document.querySelectorAll("article")].reverse().map(it
   tables: [...it.querySelectorAll("tbody")].map(body => [...body.rows].map(row => [...row.cells].map(cell => cell.textContent))),
   sides: [...it.querySelectorAll(".side")].map(side => [...side.children].map(part => part.textContent)),
   said: it.querySelector(".answer").textContent,
+  warnings: [...it.querySelectorAll(".warning")].map(line => line.textContent),
   meanings: [...it.querySelectorAll("li > code")].map(line => line.textContent),
   text: it.querySelector("pre").textContent,
   drawn: Boolean(it.querySelector(".picture > div")?.shadowRoot.querySelector("svg > title")),

@@ -1,16 +1,18 @@
-"""Pictures: those of the examples, and each held against what drawing.py draws of the same bytes and of the verdict on them;
-well-formed XML of few elements, which fetches and runs nothing, of a size that is linear in the entries.
+"""Pictures: those of the examples, and each held against what the reference draws of the same bytes; well-formed XML of few
+elements, which fetches and runs nothing, of a size that is linear in the entries.
 """
 import os
 import xml.etree.ElementTree
 
 from campaigns import bytes_of, example, pair, text_of
 from devices import FULL
-from drawing import bundles_in, picture, several
-from layout import Bundle, Log
+from layout import Bundle
 from programs import End, differs, fault, run
+from reference import answer
 from scenarios import everybody, scenario
 from worked import known_scenarios
+from model.bundle import CAMPAIGN_MARK, read_bundle, read_campaign
+from model.log import read_log
 
 # What a picture is made of, and what stands in one besides.
 SVG = "{http://www.w3.org/2000/svg}"
@@ -37,27 +39,21 @@ def wrong_form(svg):
     return None
 
 
-def entries_in(data):
-    """How many entries the logs of a bundle have."""
-    bundle = Bundle(data)
-    return sum(len(Log(log, bundle.version).entries) for _, log in bundle.exhibits)
-
-
-def wrong_size(svg, bundles, verdict):
+def wrong_size(svg, data, verdict):
     """What is wrong with the size of a picture, or None."""
-    entries = sum(entries_in(bundle) for bundle in bundles)
+    bundles = read_campaign(data) if data.startswith(CAMPAIGN_MARK) else [read_bundle(data)]
+    entries = sum(len(read_log(it.data, bundle.header).entries) for bundle in bundles for it in bundle.exhibits)
     most = PAGE + len(bundles) * 48 * PARTS + EACH * (entries + verdict.count(b"\n"))
     return None if len(svg) <= most else f"{len(svg)} bytes of {entries} entries, more than {most}"
 
 
-def try_picture(program, tally, name, data, draws, bundles):
+def try_picture(program, tally, name, data):
     """The picture of bytes, by one worker and by several, whatever the verdict on them is."""
-    verdict = run(program, ["audit"], data).wrote
-    wanted = End(0, draws(data, verdict), b"")
+    wanted, verdict = answer(["draw"], data), run(program, ["audit"], data).wrote
     for words in (["draw"], ["draw", "--workers", "3"]):
         tally.hold(f"{' '.join(words)}, {name}", differs(run(program, words, data), wanted))
     tally.hold(f"form, {name}", wrong_form(wanted.wrote))
-    tally.hold(f"size, {name}", wrong_size(wanted.wrote, bundles, verdict))
+    tally.hold(f"size, {name}", wrong_size(wanted.wrote, data, verdict))
     tally.count(3)
 
 
@@ -81,15 +77,13 @@ def try_examples(program, tally):
 def try_bundles(program, tally):
     """The pictures of all runs that were worked out, that of 16 generals and 16 rounds among them, and of logs that are missing."""
     for name, text in known_scenarios().items():
-        data = run(program, ["run"], text).wrote
-        try_picture(program, tally, name, data, picture, [data])
+        try_picture(program, tally, name, run(program, ["run"], text).wrote)
         tally.count(1)
     bundle = Bundle(example("split.bundle"))
     bundle.exhibits = bundle.exhibits[1:2] + bundle.exhibits[1:]
     for name, faulty in (("a log is missing, and one is there twice", b"\0\0"), ("nobody is left", b"\0\7")):
         bundle.faulty = faulty
-        data = bundle.spell()
-        try_picture(program, tally, name, data, picture, [data])
+        try_picture(program, tally, name, bundle.spell())
 
 
 def try_campaigns(program, tally):
@@ -98,7 +92,7 @@ def try_campaigns(program, tally):
     alone = run(program, ["campaign"], text_of(pair(1))).wrote
     first, second = (run(program, ["run"], text).wrote for text in (pair(0), pair(0, 1, {1: []})))
     for name, data in (("series", series), ("one run", alone), ("one slot twice", bytes_of(first, second))):
-        try_picture(program, tally, name, data, several, bundles_in(data))
+        try_picture(program, tally, name, data)
     across = run(program, ["draw"], bytes_of(first, second)).wrote
     tally.hold("across, one slot twice", None if across.count(b"is convicted by K1 across 0 1") == 4 else f"{across[-600:]!r}")
     tally.count(5)

@@ -4,17 +4,12 @@ input. Runs are expected, files are shown, names are explained, and texts have w
 import os
 import re
 
+from campaigns import EXAMPLES, example as read
 from programs import run
-from refusals import EXAMPLES
 
 FORMATS = os.path.join(os.path.dirname(os.path.dirname(os.path.abspath(__file__))), "docs", "FORMATS.md")
 NO_RUN = "0" * 64
 FILES = ["split.bundle", "series.bundles", "split.evidence", "disputed.bundle"]
-
-
-def read(name):
-    with open(os.path.join(EXAMPLES, name), "rb") as kept:
-        return kept.read()
 
 
 def runs_of(program, given):

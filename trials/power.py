@@ -16,13 +16,12 @@ import shutil
 import signal
 import socket
 import subprocess
-import tempfile
 import time
 from typing import NamedTuple
 
 from datagrams import FRONT, free_addresses, write_places
-from embed import WARNINGS, IsNotBuilt, TOP, do
-from processes import ARCHIVE, LATE, MOST_TRIES, System, build_programs, make_header
+from embed import WARNINGS, TOP, do
+from processes import LATE, MOST_TRIES, System, build_programs, make_header, try_with_library
 from programs import run, side_by_side
 
 # Four generals, of whom the commander alone is a process.
@@ -296,12 +295,4 @@ def try_built(tally, folder):
 
 
 def trials(program, tally):
-    if not os.path.exists(ARCHIVE) or not shutil.which("cc"):
-        tally.note("left out: cc or crates/sm_node/out/libsm_node.a is not there")
-        return
-    # A socket's address is short, so the folder has to be.
-    with tempfile.TemporaryDirectory(dir="/tmp") as folder:
-        try:
-            try_built(tally, folder)
-        except IsNotBuilt as told:
-            tally.fail(str(told))
+    try_with_library(tally, lambda folder: try_built(tally, folder))

@@ -4,7 +4,7 @@ Of scenario texts, and of bundles and evidence up to the end of the header, ever
 that end at a border between parts or beside one, and some more that are drawn.
 """
 from draws import Draws
-from layout import Bundle, ends_of_parts, front_length, small_in_evidence
+from layout import ends_of_parts, front_length, small_in_bundle, small_in_evidence
 from programs import differs, fault, run, side_by_side
 from scenarios import scenario, signed, chain
 
@@ -67,7 +67,7 @@ def trials(program, tally):
                 tally.count(len(cases))
                 tally.hold(f"{command}, prefixes of a text with {name}", first_wrong(program, [command], cases))
     for name, data in bundles(program).items():
-        cases = byte_cases(data, Bundle(data).small_places(), "fault B1", "fault B8")
+        cases = byte_cases(data, small_in_bundle(data), "fault B1", "fault B8")
         for words in (["audit"], ["accuse", "--general", "0"]):
             tally.count(len(cases))
             tally.hold(f"{words[0]}, prefixes of a bundle {name}", first_wrong(program, words, cases))

@@ -5,16 +5,16 @@ nodes.py drives them over Unix sockets, datagrams.py over UDP, and power.py kill
 import os
 import shutil
 import subprocess
+import tempfile
 import threading
 import time
 from typing import NamedTuple
 
-from embed import EMBED, SANITIZERS, STACK, TOP, WARNINGS, do
+from embed import EMBED, SANITIZERS, STACK, TOP, WARNINGS, IsNotBuilt, do
 from layout import Bundle
 from programs import run, side_by_side
 from scenarios import ZEROS, everybody, scenario
-
-import hashlib
+from model.keys import digest, general_seed
 
 ARCHIVE = os.path.join(TOP, "crates", "sm_node", "out", "libsm_node.a")
 NODES = os.path.join(EMBED, "nodes")
@@ -34,8 +34,20 @@ PATIENCE = 300
 
 
 def seed_of(general, master=ZEROS):
-    """The seed of a general of a scenario, by docs/FORMATS.md."""
-    return hashlib.sha256(b"\x30" + bytes.fromhex(master) + bytes([general])).digest()
+    """The seed of a general of a scenario."""
+    return general_seed(bytes.fromhex(master), general)
+
+
+def try_with_library(tally, part):
+    """Tries a part that wants the library of nodes, in a folder of its own. A socket's address is short, so the folder has to be."""
+    if not os.path.exists(ARCHIVE) or not shutil.which("cc"):
+        tally.note("left out: cc or crates/sm_node/out/libsm_node.a is not there")
+        return
+    with tempfile.TemporaryDirectory(dir="/tmp") as folder:
+        try:
+            part(folder)
+        except IsNotBuilt as told:
+            tally.fail(str(told))
 
 
 class System(NamedTuple):
@@ -121,7 +133,7 @@ def make_header(made, folder, system):
 def run_id_of(folder):
     """The run id of the header in a folder."""
     with open(os.path.join(folder, "header"), "rb") as kept:
-        return hashlib.sha256(b"\x31" + kept.read()).digest()
+        return digest(b"\x31" + kept.read())
 
 
 class Way:

@@ -1,6 +1,7 @@
 """Runs the program, with limits, and says how each run ended."""
 import concurrent.futures
 import os
+import re
 import subprocess
 from typing import NamedTuple
 
@@ -55,9 +56,9 @@ def count_cores():
 
 
 def commands_of(program):
-    """The commands of the program, by its own help."""
-    lines = run(program, ["--help"]).wrote.decode().splitlines()
-    return {line.split()[0] for line in lines if line.startswith("  ") and line.strip()}
+    """The commands of the program, by its own help: those of its section of commands, which ends with an empty line."""
+    section = run(program, ["--help"]).wrote.decode().partition("\nCommands:\n")[2].partition("\n\n")[0]
+    return set(re.findall(r"^ {2}(\w+)", section, re.M))
 
 
 def spell(words):

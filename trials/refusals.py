@@ -5,6 +5,7 @@ generals, and where memory is refused from the Nth call on, N grows by an eighth
 calls than in the run before, since threads take turns, is no matter: whatever is refused, it has to end in one of these
 two ways.
 """
+import itertools
 import json
 import os
 import shutil
@@ -12,7 +13,7 @@ import subprocess
 import tempfile
 from typing import NamedTuple
 
-from layout import MARK, Bundle
+from layout import MARK, Bundle, with_shared_root
 from programs import End, count_cores, run, shown, side_by_side, spell
 from scenarios import ZEROS, header_text, signed, sixteen
 
@@ -73,21 +74,26 @@ def numbers(is_sampled):
         number += number // 8 + 1 if is_sampled else 1
 
 
+def runs_of(call, is_sampled):
+    """Runs in which one call after the other is refused, with their ends, up to the first that meets no refusal."""
+    coming = numbers(is_sampled)
+    while some := list(itertools.islice(coming, AT_ONCE * count_cores())):
+        for number, (end, was_refused) in zip(some, side_by_side(call, some)):
+            yield number, end, was_refused
+            if not was_refused:
+                return
+
+
 def count_up(call, lawful, kind, is_sampled):
     """Refuses one call after the other. Returns how many runs met a refusal, and what is wrong with one, or None."""
-    whole = lawful[0]
-    coming, runs, refusals = numbers(is_sampled), 0, 0
-    while True:
-        some = [number for number, _ in zip(coming, range(AT_ONCE * count_cores()))]
-        if not some:
-            return runs, f"still refused after {runs} runs"
-        for number, (end, was_refused) in zip(some, side_by_side(call, some)):
-            wanted = lawful if was_refused else [whole]
-            if end not in wanted:
-                return runs, f"{number} refused: {shown(end)}"
-            if not was_refused:
-                return runs, None if refusals or kind == "thread" else "no refusal of memory was ever answered"
-            runs, refusals = runs + 1, refusals + (end != whole)
+    runs = refusals = 0
+    for number, end, was_refused in runs_of(call, is_sampled):
+        if end not in (lawful if was_refused else lawful[:1]):
+            return runs, f"{number} refused: {shown(end)}"
+        if not was_refused:
+            return runs, None if refusals or kind == "thread" else "no refusal of memory was ever answered"
+        runs, refusals = runs + 1, refusals + (end != lawful[0])
+    return runs, f"still refused after {runs} runs"
 
 
 def small_cases(program, folder):
@@ -183,7 +189,12 @@ def prepared_cases(program, folder):
     yield "a seed", ["root", "--tall"], bytes(range(32))
     yield "no seed", ["root"], b"seed"
     yield "a header's text", ["header", "--slot", "1", "--print-run"], header_text()
+    yield "a header's text", ["plan"], header_text()
+    yield "a line with a general missing", ["plan", "--slot", "1"], header_text(signed()["no_walk"])
     data = run(program, ["run"], signed()["split"]).wrote
+    yield "a bundle", ["plan"], data
+    shared = with_shared_root(data, 0, 2)
+    yield from (("equal roots", words, shared) for words in (["audit", "--strict"], ["show"], ["show", "--json"]))
     split = Bundle(data)
     files = {"header": split.front[MARK:], "log": split.exhibits[1][1]}
     files["evidence"] = run(program, ["accuse", "--general", "0"], data).wrote

@@ -2,22 +2,11 @@
 
    Where `left` is not negative, so many blocks are still had, and each after them is refused. `blocks` is how many are
    held. */
-#include <stdbool.h>
-#include <stddef.h>
-#include <stdint.h>
+#include "../embed/sm_heap.h"
 #include <stdlib.h>
-
-struct sm_block {
-    bool ok;
-    uint8_t *at;
-};
 
 long left = -1, blocks = 0;
 static uint8_t no_block;
-
-struct sm_block rattle_alloc(size_t bytes, size_t align);
-struct sm_block rattle_realloc(uint8_t *at, size_t kept, size_t bytes, size_t align);
-void rattle_dealloc(uint8_t *at);
 
 static bool refuses(void) {
     if (left > 0) left--;

@@ -48,9 +48,11 @@ BOTH = """#include <sm_embed.h>
 #include <stdio.h>
 int main(void) {
     uint8_t seed[SM_SEED_BYTES] = {0}, root[SM_ROOT_BYTES], room[100];
+    sm_node keys = {0};
     size_t count;
-    if (sm_node_root(seed, 1, root) != SM_OK || sm_audit(NULL, 0, room, sizeof room, &count) != SM_FAULT) return 1;
+    if (sm_node_keys(&keys, seed, 1, root) != SM_OK || sm_audit(NULL, 0, room, sizeof room, &count) != SM_FAULT) return 1;
     printf("%.*s\\n", (int)count, (const char *)room);
+    sm_node_free(&keys);
     return sm_version() != SM_VERSION_NUMBER || sm_node_version() != SM_VERSION_NUMBER;
 }
 """
@@ -340,8 +342,7 @@ def try_words(program, prefix, tally):
     """Pages of the manual, and completions."""
     there = all_files(os.path.join(prefix, "share", "man", "man3"))
     tally.hold("pages of section 3", None if there == sorted(pages()) else f"{there}")
-    words, told = commands_of(program), {*completions.commands()[0], *completions.OTHERS}
-    lacking = {it for it in words if it.isalpha()} ^ told
+    lacking = commands_of(program) ^ {*completions.commands()[0], *completions.OTHERS}
     tally.hold("commands that are completed", f"{lacking}" if lacking else None)
     if shutil.which("bash"):
         words = 'COMP_WORDS=(sm_tool audit --workers ""); COMP_CWORD=3; _sm_tool; echo "${COMPREPLY[*]}"'

@@ -1,24 +1,17 @@
 """Scenario texts that the trials use."""
-import itertools
+import reference  # noqa: F401
+from vector_cases.texts import ZEROS, everybody, scenario_lines, text_of
 
-ZEROS = "00" * 32
+
+def spell_lines(lines):
+    return text_of(lines).encode()
 
 
-def scenario(edges, traitors, diameter, order, scripts=None, orders=2, choice=0, seed=ZEROS, slot=None):
+def scenario(edges, traitors, diameter, order, scripts=None, seed=ZEROS, **more):
     """The text of a scenario of the generals that its edges join; scripts are lists of lines, by their generals."""
     generals = 1 + max(max(edge) for edge in edges)
-    lines = [f"generals {generals}", *(f"edge {a} {b}" for a, b in edges), f"traitors {traitors}"]
-    lines += [f"diameter {diameter}", f"orders {orders}", f"choice {choice}", f"order {order}"]
-    lines += [f"seed {seed}"] if seed else []
-    lines += [] if slot is None else [f"slot {slot}"]
-    for general, script in sorted((scripts or {}).items()):
-        lines += [f"script {general}", *script]
-    return "".join(f"{line}\n" for line in [*lines, "end"]).encode()
-
-
-def everybody(generals):
-    """All edges between so many generals."""
-    return list(itertools.combinations(range(generals), 2))
+    numbers = {"traitors": traitors, "diameter": diameter, "order": order}
+    return spell_lines(scenario_lines(generals, edges, scripts=scripts or {}, seed=seed, **numbers, **more))
 
 
 def chain(generals):
@@ -55,7 +48,8 @@ def sixteen(slot=None):
     return scenario(everybody(16), 8, 8, 14, orders=15, choice=1, slot=slot)
 
 
-def header_text():
-    """The text of a header of two generals, whose roots are any bytes."""
-    network = signed()["pair"].partition(b"\norder ")[0]
-    return network + b"\nroot " + b"01" * 32 + b"\nroot " + b"ab" * 32 + b"\nend\n"
+def header_text(text=None):
+    """The text of a header with the network of a scenario, or of two generals. The roots are any bytes, no two the same."""
+    network = (text or signed()["pair"]).partition(b"\norder ")[0]
+    roots = [b"root " + b"%02x" % (0xAA + general) * 32 for general in range(int(network.split()[1]))]
+    return b"\n".join([network, *roots, b"end\n"])

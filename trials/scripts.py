@@ -1,9 +1,9 @@
 """The scripts sm_tool and prove, in a small repository of two crates: what runs as proved was proved from the sources.
 
 The small repository has the scripts of this one, a library whose function returns a number, and a program sm_tool that prints
-it for each line of its input. A source is edited while the program is being proved, and the edit is taken back: whatever was built then, the edited
-number is not printed as a proved answer, and the next use proves the library again. Without a proved program the script
-answers by the program compiled without proofs, and says so. The built program itself is not used.
+it for each line of its input. A source is edited while the program is being proved, and the edit is taken back: whatever was
+built then, the edited number is not printed as a proved answer, and the next use proves the library again. Without a proved
+program the script answers by the program compiled without proofs, and says so. The built program itself is not used.
 
 In a copy of the script and the reference alone, without the kit on the path, the reference answers, and two lines say so.
 """

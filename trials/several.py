@@ -128,7 +128,7 @@ def across_evidence(draws, block):
     bundles = block.campaign()[0]
     numbers = [-1 - at for at in range(len(bundles)) if block.forger(-1 - at).texts] or [-1]
     forgers = {at: block.forger(at) for at in numbers}
-    pairs = [(a, b) for a in numbers for b in numbers if forgers[a].slot == forgers[b].slot and a != b]
+    pairs = [(a, b) for a in numbers for b in numbers if forgers[a].header.slot == forgers[b].header.slot and a != b]
     first, second = draws.one_of(pairs or [(a, b) for a in numbers for b in numbers])
     if not forgers[first].texts:
         return b"", bundles[0]

@@ -40,12 +40,6 @@ def build(folder):
     return library
 
 
-def commands_with_input(program):
-    """The commands that the program's help lists, but those that read nothing."""
-    listed = run(program, ["--help"]).wrote.decode().partition("Commands:\n")[2].partition("\n\n")[0]
-    return {line.split()[0] for line in listed.splitlines()} - OF_NOTHING
-
-
 def cases(program, folder):
     """Each command on a small input, of which it writes something: the words, and the input. Files that are named lie in a
     folder."""
@@ -156,5 +150,5 @@ def trials(program, tally):
             for name, wrong in named.items():
                 tally.hold(f"{spell(slipping.words)}, {name}", wrong)
             tally.count(slipping.runs)
-    left = commands_with_input(program) - {slipping.words[0] for slipping in made}
+    left = tally.commands - OF_NOTHING - {slipping.words[0] for slipping in made}
     tally.hold("each command", f"nothing slipped of {sorted(left)}" if left else None)

@@ -1,4 +1,4 @@
-"""The vectors of reference/vectors/ that are whole commands: the program answers as they say.
+"""The vectors of reference/vectors/ that are whole commands and no rows, which the gate tries: the program answers as they say.
 
 What each file is, docs/VECTORS.md says. That the files are what the reference makes is tried too.
 """
@@ -11,6 +11,7 @@ import tempfile
 from programs import End, differs, first_line, run, side_by_side, spell
 import reference  # noqa: F401
 import make_vectors
+import rows
 from vector_cases.parts import TOP, bytes_of, files_of
 
 # What bytes or files can't have: a fault of parts, and what hangs on what a node was handed before.
@@ -48,9 +49,14 @@ def run_vector(program, vector):
         return run(program, vector["words"], bytes_of(vector), cwd=folder)
 
 
-def try_file(program, tally, name, vectors):
-    """The vectors of one file."""
-    commands = [vector for vector in vectors if vector.get("words", [""])[0] in tally.commands]
+def is_tried(vector, tried):
+    """Whether a vector is one of the commands that the gate tries."""
+    return "files" not in vector and (" ".join(vector["words"]), bytes_of(vector)) in tried
+
+
+def try_file(program, tally, name, vectors, tried):
+    """The vectors of one file that the gate has not tried."""
+    commands = [vector for vector in vectors if vector.get("words", [""])[0] in tally.commands and not is_tried(vector, tried)]
     ends = side_by_side(lambda it: run_vector(program, it), commands)
     for end, vector in zip(ends, commands):
         tally.hold(f"{name}, {spell(vector['words'])}, {vector['about']}", wrong_output(end, vector))
@@ -71,8 +77,9 @@ def named_in_formats():
 
 
 def trials(program, tally):
+    tried = set(rows.commands_tried())
     for name, vectors in stored().items():
-        try_file(program, tally, name, vectors)
+        try_file(program, tally, name, vectors, tried)
     missing = named_in_formats() - told_by(vector for vectors in stored().values() for vector in vectors)
     tally.hold("all faults and findings", f"no vector tells {sorted(missing)}" if missing else None)
     stale = make_vectors.stale_files()

@@ -120,7 +120,7 @@ def try_stolen_key(program, tally):
     tally.hold("stolen key, log withheld", differs(run(program, ["audit"], withheld), verdict("stolen_key_withheld")))
     evidence = run(program, ["accuse", "--general", "0"], withheld).wrote
     tally.hold("stolen key, evidence", differs(run(program, ["evidence"], evidence), End(0, b"evidence holds\n", b"")))
-    log = Log(bundle.exhibits[2][1], 1)
+    log = Log(bundle.exhibits[2][1], bundle.header)
     entry = bytearray(log.entries[6])
     entry[5] ^= 0x80
     log.entries[6], log.head = bytes(entry), stored("bent_signature.head")

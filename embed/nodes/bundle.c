@@ -30,6 +30,7 @@ static struct bytes read_logs(const char *folder, char **generals, int count, sm
 
 int main(int count, char **words) {
     sm_log logs[SM_LOGS_MOST];
+    sm_pair apart;
     size_t length;
     uint32_t fault;
     if (count < 3 || count > 3 + SM_LOGS_MOST) {
@@ -41,8 +42,9 @@ int main(int count, char **words) {
     struct bytes all = read_logs(words[1], words + 3, count - 3, logs);
     /* Besides the header and the logs: the mark, the set and two counts, the walks, and what stands before each log. */
     struct bytes room = room_of(header.length + all.length + 8 + MOST_WALKS * WALK_BYTES + SM_LOGS_MOST * 5);
-    uint32_t status = sm_node_bundle(header.at, header.length, faulty, logs, (size_t)(count - 3), all.at, all.length,
-                                room.at, room.length, &length, &fault);
+    uint32_t status = sm_node_bundle(header.at, header.length, faulty, 0, logs, (size_t)(count - 3), all.at, all.length,
+                                     room.at, room.length, &length, &fault, &apart);
+    if (fault == SM_U1 || fault == SM_U2) fprintf(stderr, "nodes %u and %u are apart\n", apart.first, apart.second);
     must_fit(status, fault, "sm_node_bundle");
     if (fwrite(room.at, 1, length, stdout) != length || fflush(stdout) != 0) give_up("standard output");
     free(header.at);

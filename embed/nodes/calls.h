@@ -7,9 +7,13 @@
 /* Makes a node with an order, or with SM_NO_ORDER. The seed lies on the caller's stack, who wipes it. */
 static inline void make_node(const struct general *general, sm_node *node, struct bytes header, const uint8_t seed[32],
                              uint32_t order) {
+    uint8_t root[SM_ROOT_BYTES];
     uint32_t fault;
-    uint32_t status = sm_node_new(node, header.at, header.length, general->me, seed, order, &fault);
+    sm_node keys = {0};
+    must(sm_node_keys(&keys, seed, general->version, root), "sm_node_keys");
+    uint32_t status = sm_node_new(node, header.at, header.length, general->me, &keys, order, &fault);
     must_fit(status, fault, "sm_node_new");
+    sm_node_free(&keys);
 }
 
 /* Writes the frame to a neighbour, and tells its length. */

@@ -15,8 +15,8 @@
    with a false address, or change datagrams on the way, can end a run, but not sign. So the network has to be closed,
    or IPsec or WireGuard stands below.
 
-   A datagram has the mark SMD1, 35 bytes as a frame has them at this place, the length of the frame, the place of the
-   piece in the frame, and the piece:
+   A datagram has the mark SMD1, the run id, the round, the sender, the receiver, the length of the frame, the place of
+   the piece in the frame, and the piece:
 
        SMD1 | run id, 32 bytes | round | sender | receiver | length, 4 bytes | place, 4 bytes | piece
 
@@ -153,11 +153,10 @@ void open_transport(struct general *general) {
 }
 
 /* The length that a datagram of a neighbour says the frame has, or 0 if the datagram is no piece of the neighbour's
-   frame of this round. The general's own frame to the neighbour has the run id and the round. */
+   frame of this round. */
 static size_t length_of(const struct general *general, uint32_t from, const uint8_t *at, size_t count) {
-    const uint8_t *sent = general->out[from].at;
-    if (count <= FRONT || memcmp(at, mark, 4) != 0 || memcmp(at + 4, sent + 4, 33) != 0) return 0;
-    if (at[37] != from || at[38] != general->me) return 0;
+    if (count <= FRONT || memcmp(at, mark, 4) != 0 || memcmp(at + 4, general->run_id, 32) != 0) return 0;
+    if (at[36] != general->round || at[37] != from || at[38] != general->me) return 0;
     size_t length = number_at(at + 39), place = number_at(at + 43);
     if (length > general->longest || place >= length || place % PIECE != 0) return 0;
     size_t left = length - place;
@@ -230,7 +229,10 @@ static void send_piece(struct general *general, uint32_t to, size_t place, int64
     int family = family_to(general, to);
     const struct place *receiver = &places[to][family];
     memcpy(at, mark, 4);
-    memcpy(at + 4, frame.at + 4, 35);
+    memcpy(at + 4, general->run_id, 32);
+    at[36] = (uint8_t)general->round;
+    at[37] = (uint8_t)general->me;
+    at[38] = (uint8_t)to;
     put_number(at + 39, frame.length);
     put_number(at + 43, place);
     memcpy(at + FRONT, frame.at + place, count);

@@ -17,7 +17,8 @@ enum { GENERALS = SM_GENERALS_MOST, NOBODY = GENERALS, LATE = 3 };
    the heard are the neighbours whose frames of that round were taken. No frame is longer than `longest`. */
 struct general {
     const char *folder;
-    uint32_t me, neighbours, heard;
+    uint8_t run_id[SM_RUN_ID_BYTES];
+    uint32_t version, me, neighbours, heard;
     int rounds, round;
     int64_t start, length;
     size_t longest;

@@ -13,9 +13,11 @@ enum { MOST_EDGES = 120 };
 /* Prints the root of a seed's keys. */
 static void tell_root(const char *folder, uint32_t general, uint32_t version) {
     uint8_t seed[32], root[32];
+    sm_node keys = {0};
     read_seed(folder, general, seed);
-    must(sm_node_root(seed, version, root), "sm_node_root");
+    must(sm_node_keys(&keys, seed, version, root), "sm_node_keys");
     explicit_bzero(seed, sizeof seed);
+    sm_node_free(&keys);
     for (int place = 0; place < 32; place++) printf("%02x", root[place]);
     printf("\n");
 }

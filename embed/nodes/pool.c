@@ -1,16 +1,14 @@
 /* A heap over a pool of fixed size, in place of ../heap.c, for a program that may not take more memory than it has
-   planned. It keeps the rules in the comment of heap.c. If the pool is used up, memory is refused: a call of the
+   planned. It keeps the rules of sm_heap.h. If the pool is used up, memory is refused: a call of the
    library is SM_MEMORY then, and may be made again.
 
    SM_POOL_BYTES is the size. sm_pool_most tells the most bytes that were taken at one time, with 16 bytes for each
    block. A run of correct nodes takes less than faulty neighbours can cause. So run a program once with a large pool, in
    which faulty neighbours send every value in every round in which it can count, as bench/pools.py does. Add what
    docs/EMBED.md says of signatures that do not count. Free memory may lie in pieces: take a quarter more. */
+#include "../sm_heap.h"
 #include <stdalign.h>
 #include <stdatomic.h>
-#include <stdbool.h>
-#include <stddef.h>
-#include <stdint.h>
 #include <string.h>
 
 #ifndef SM_POOL_BYTES
@@ -24,14 +22,6 @@ struct block {
     bool is_taken;
 };
 
-struct sm_block {
-    bool ok;
-    uint8_t *at;
-};
-
-struct sm_block rattle_alloc(size_t bytes, size_t align);
-struct sm_block rattle_realloc(uint8_t *at, size_t kept, size_t bytes, size_t align);
-void rattle_dealloc(uint8_t *at);
 size_t sm_pool_most(void);
 
 enum { UNIT = sizeof(struct block), POOL = SM_POOL_BYTES / UNIT * UNIT };

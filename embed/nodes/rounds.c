@@ -77,15 +77,21 @@ static void run_round(struct general *general, int round) {
     tell_heard(general);
 }
 
-/* Learns the rounds, the neighbours, and how long a frame may be, and makes room for frames. */
+/* Learns the version, the run id, the rounds, the neighbours, and how long a frame may be, and makes room for frames. */
 static void know(struct general *general, struct bytes header) {
     uint32_t rounds, fault;
-    uint32_t status = sm_node_rounds(header.at, header.length, &rounds, &fault);
+    sm_numbers numbers;
+    uint32_t status = sm_node_header_numbers(header.at, header.length, &numbers, &fault);
+    must_fit(status, fault, "sm_node_header_numbers");
+    status = sm_node_run_id(header.at, header.length, general->run_id, &fault);
+    must_fit(status, fault, "sm_node_run_id");
+    status = sm_node_rounds(header.at, header.length, &rounds, &fault);
     must_fit(status, fault, "sm_node_rounds");
     status = sm_node_neighbours(header.at, header.length, general->me, &general->neighbours, &fault);
     must_fit(status, fault, "sm_node_neighbours");
     status = sm_node_frame_most(header.at, header.length, &general->longest, &fault);
     must_fit(status, fault, "sm_node_frame_most");
+    general->version = numbers.version;
     general->rounds = (int)rounds;
     for (uint32_t to = 0; to < GENERALS; to++)
         if (general->neighbours >> to & 1) general->out[to] = room_of(general->longest);

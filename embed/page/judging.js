@@ -3,6 +3,8 @@
 // What a call returns; UNASKED is the page's own, where it could not ask.
 const YES = 0, NO = 1, MISUSE = 2, FAULT = 3, MEMORY = 4, LENGTH = 5, OTHER = 7, UNASKED = 9;
 const LONGEST = 1073741824;
+// The form of an answer that is a JSON object.
+const JSON_FORM = 1;
 // The room for an answer that is handed over at once.
 const ROOM = 256;
 // The bytes of a run id, of a root, of a pointer, and of the mark of a file.
@@ -61,7 +63,7 @@ function ask(of, call, input, { runs = NOTHING, numbers = [] } = {}) {
   const short = { end: MEMORY, bytes: NOTHING };
   const ids = put(of, runs), answer = put(of, new Uint8Array(POINTER_BYTES));
   if (!input || !ids || !answer) return short;
-  const first = call.endsWith("_of") ? [ids.at, BigInt(runs.length / ID_BYTES)] : [];
+  const first = /_(?:of|as)$/.test(call) ? [ids.at, BigInt(runs.length / ID_BYTES)] : [];
   const end = of[call](...first, ...numbers, input.at, input.length, answer.at);
   const bytes = end === MEMORY || end === MISUSE ? NOTHING : heldBy(of, answer);
   of.sm_answer_free(answer.at);
@@ -119,11 +121,20 @@ function weighed(of, kind, input, runs) {
   return { end: isShort ? MEMORY : FAULT, text: `${textOf(other.bytes)}\n${textOf(bytes)}` };
 }
 
+// Of each run the pair of generals that no walk joins, if the verdict says that a walk is missing.
+function partedBy(of, input, runs, text) {
+  if (!/^N10 /m.test(text)) return [];
+  const { end, bytes } = ask(of, "sm_audit_as", input, { runs, numbers: [0, JSON_FORM] });
+  const said = end > NO ? {} : JSON.parse(textOf(bytes));
+  return (said.runs ?? [said]).map(it => it.parted);
+}
+
 // The answer on a bundle or a campaign.
 function audited(of, input, runs) {
   const { end, bytes } = ask(of, "sm_audit_of", input, { runs, numbers: [0] }), text = textOf(bytes);
   if (end > NO) return { end, text };
-  return { end, text, evidence: evidenceBy(of, input, runs, text), picture: pictureOf(of, input, runs) };
+  const parted = partedBy(of, input, runs, text);
+  return { end, text, parted, evidence: evidenceBy(of, input, runs, text), picture: pictureOf(of, input, runs) };
 }
 
 // An answer with what the module says of the file that it is about: what is shown of the file, what evidence claims, and

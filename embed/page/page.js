@@ -189,18 +189,23 @@ function generalsTable(run, verdict, label) {
 }
 
 // Each pair of generals of a run that have the same root.
-const equalRootsIn = run => run.equalRoots.map(pair => made("p", "equal",
+const equalRootsIn = run => run.equalRoots.map(pair => made("p", "warning",
   `Equal roots: ${generalsIn(pair)} have the same root, so whoever has its keys is counted as two.`));
 
+// The pair of generals of a run that no walk joins, if there is one.
+const partedIn = (run, pair) => (pair ? [made("p", "warning", `No walk: ${generalsIn(pair)} are not joined by ${
+  several(run.diameter, "edge", "edges")} or fewer through generals that are not held for faulty. So there is no yes with `
+  + "this list.")] : []);
+
 // The runs of a file, each with its numbers and its generals.
-function runsIn({ kind, file, verdicts }) {
+function runsIn({ kind, file, verdicts, parted = [] }) {
   const alone = file.runs.length === 1;
   return file.runs.filter(it => it.id).flatMap((run, place) => {
     const name = alone ? "The run" : isAboutEvidence(kind) ? `Run of the ${place ? "second" : "first"} text` : `Run ${place}`;
     const said = verdicts[place] ? `${name}: ${verdicts[place].verdict}` : name;
     const label = alone ? "The generals" : `The generals of run ${place}`;
     const table = run.faulty ? [generalsTable(run, verdicts[place], label)] : [];
-    return [made("h3", "", said), ...equalRootsIn(run), runFacts(run), ...table];
+    return [made("h3", "", said), ...equalRootsIn(run), ...partedIn(run, parted[place]), runFacts(run), ...table];
   });
 }
 

@@ -7,12 +7,13 @@ import secrets
 import vamuretu
 
 seeds = [secrets.token_bytes(32) for _ in range(4)]  # each serves one run, so put on the disk that it is used
-roots = [vamuretu.root(seed, 1) for seed in seeds]
 pairs = list(itertools.combinations(range(4), 2))
-header = vamuretu.header(version=1, generals=4, traitors=1, diameter=1, orders=3, edges=pairs, roots=roots)
 
 with contextlib.ExitStack() as stack:
-    nodes = [stack.enter_context(vamuretu.Node(header, g, seeds[g], 2 if g == 0 else None)) for g in range(4)]
+    keys = [stack.enter_context(vamuretu.Keys(seed, 1)) for seed in seeds]
+    roots = [it.root for it in keys]
+    header = vamuretu.header(version=1, generals=4, traitors=1, diameter=1, orders=3, edges=pairs, roots=roots)
+    nodes = [stack.enter_context(vamuretu.Node(header, g, keys[g], 2 if g == 0 else None)) for g in range(4)]
     for _ in range(header.rounds):
         for node in nodes:
             node.begin_round()

@@ -23,7 +23,7 @@ from .plan import plan_text, planned_header
 from .prepare import bundle_of_parts, header_of_text, root_text
 from .run import play
 from .scenario import read_campaign_text, read_scenario
-from .show import equal_root_lines, shown_lines, shown_runs
+from .show import equal_root_lines, listed, shown_lines, shown_runs
 from .words import explain, with_words
 
 LONGEST_INPUT = 1_073_741_824
@@ -97,10 +97,10 @@ def _number(option: str, value: str) -> int:
 def _faulty(text: str) -> Tuple[int, ...]:
     """Who is held for faulty (FORMATS.md#the-programs-commands)."""
     numbers = [] if text == "none" else [_number_in(part, 0, 15) for part in text.split(",")]
-    listed = sorted(number for number in numbers if number is not None)
-    if len(listed) != len(numbers) or len(set(listed)) != len(listed):
+    members = sorted(number for number in numbers if number is not None)
+    if len(members) != len(numbers) or len(set(members)) != len(members):
         raise Refused("--faulty takes none, or numbers from 0 to 15 with commas between them, each once")
-    return tuple(listed)
+    return tuple(members)
 
 
 def _run_ids(text: str) -> List[bytes]:
@@ -289,8 +289,7 @@ def decide(given: bytes, job: Job) -> Tuple[int, bytes]:
     for general in sorted(sets):
         orders = sorted(sets[general])
         decided = scenario.order if general == 0 else network.decided(orders)
-        members = ",".join(str(order) for order in orders) or "-"
-        lines.append(f"general {general} set {members} decides {decided}\n")
+        lines.append(f"general {general} set {listed(orders)} decides {decided}\n")
     return 0, "".join(lines).encode("ascii")
 
 
@@ -399,6 +398,18 @@ def answer_evidence(evidence: bytes, log: bytes, job: Job) -> Tuple[int, bytes]:
     return (1, b"no answer\n") if line is None else (0, line)
 
 
+def plan_line(header: bytes) -> bytes:
+    """The line that says why the plan of a header fails; none if it holds (FORMATS.md#the-programs-answers)."""
+    holds, text = plan_text(planned_header(header, None))
+    return b"" if holds else b", ".join([*text.split(b"\n")[:3], b"see sm_tool plan\n"])
+
+
+def told_of(job: Job, output: bytes) -> bytes:
+    """What standard error says of an output (FORMATS.md#the-programs-answers)."""
+    runs = run_ids_text(job, output) if "print-run" in job.flags else b""
+    return runs + (plan_line(output) if job.command == "header" else b"")
+
+
 def run_ids_text(job: Job, output: bytes) -> bytes:
     """The line with the run ids of a header, a bundle or a campaign (FORMATS.md#the-programs-answers)."""
     if job.command == "header":
@@ -483,7 +494,7 @@ def answer_job(job: Job, inputs: Sequence[bytes]) -> Answer:
         status, output = COMMANDS[job.command](*inputs, job=job)
     except Fault as fault:
         return failed(job, 3, f"fault {fault.words}", line_behind(job, inputs, fault.words), inputs[0])
-    return status, output, run_ids_text(job, output) if "print-run" in job.flags else b""
+    return status, output, told_of(job, output)
 
 
 def refused_text(refused: Refused, words: List[str]) -> Answer:

@@ -5,7 +5,7 @@ from __future__ import annotations
 import hashlib
 import json
 from dataclasses import dataclass
-from typing import Any, Callable, Dict, List, Optional, Sequence, Set, Tuple
+from typing import Any, Callable, Collection, Dict, List, Optional, Sequence, Set, Tuple
 
 from .audit import Finding, Judgement, judge
 from .bundle import CAMPAIGN_MARK, read_bundle, read_campaign, run_bundle
@@ -13,6 +13,7 @@ from .convict import convicted, convicted_across
 from .evidence import Across, Claim, Departing, Evidence, Head, Missing, Signed, read_evidence
 from .follow import plain_sets
 from .network import Network
+from .plan import first_pair
 from .run import play
 from .scenario import read_scenario
 
@@ -95,6 +96,12 @@ def status_of(judgement: Judgement, accused: Set[int], general: int) -> str:
     return "suspected" if general in named else "trusted"
 
 
+def parted(network: Network, faulty: Collection[int]) -> Optional[List[int]]:
+    """The least pair of the others that no short walk joins, if there is one (FORMATS.md#the-verdict)."""
+    pair = first_pair(network, tuple(faulty), network.diameter)
+    return None if pair is None else list(pair)
+
+
 def verdict_value(judgement: Judgement) -> Value:
     """The object of a verdict on a run of a campaign (FORMATS.md#the-verdict)."""
     header = judgement.bundle.header
@@ -113,6 +120,7 @@ def verdict_value(judgement: Judgement) -> Value:
                  for report in judgement.reports if report.log is not None],
         "network": network_value(header.network),
         "order": int(order) if order else None,
+        "parted": parted(header.network, judgement.bundle.faulty),
         "run": header.run_id.hex(),
         "statuses": [{"general": general, "status": status_of(judgement, accused, general)}
                      for general in range(header.network.generals)],

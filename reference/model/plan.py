@@ -49,10 +49,15 @@ def sets_in_order(network: Network, most: int) -> Iterator[Set]:
         yield from sorted(combinations(range(network.generals), count), key=number_of)
 
 
-def farthest(network: Network, absent: Set) -> Optional[int]:
+def neighbour_numbers(network: Network) -> List[int]:
+    """The neighbours of each general, as a number."""
+    return [number_of(network.neighbours(general)) for general in range(network.generals)]
+
+
+def farthest(neighbours: List[int], absent: Set) -> Optional[int]:
     """The longest of the shortest walks between two generals that are not absent; None if two are cut apart."""
-    rest = ((1 << network.generals) - 1) & ~number_of(absent)
-    near = [number_of(network.neighbours(general)) & rest for general in range(network.generals)]
+    rest = ((1 << len(neighbours)) - 1) & ~number_of(absent)
+    near = [members & rest for members in neighbours]
     if all(rest & ~(near[general] | 1 << general) == 0 for general in members_of(rest)):
         return 1 if rest & (rest - 1) else 0
     return _farthest_among(near, rest)
@@ -91,8 +96,9 @@ def first_pair(network: Network, absent: Set, most: int) -> Optional[Tuple[int, 
 
 def first_cut(network: Network) -> Optional[Cut]:
     """The first set that cuts, and the least pair that it cuts; None if the plan holds (FORMATS.md#plan-text)."""
+    neighbours = neighbour_numbers(network)
     for members in sets_in_order(network, network.traitors):
-        edges = farthest(network, members)
+        edges = farthest(neighbours, members)
         pair = None if edges is not None and edges <= network.diameter else first_pair(network, members, network.diameter)
         if pair is not None:
             return (members, *pair)
@@ -101,8 +107,13 @@ def first_cut(network: Network) -> Optional[Cut]:
 
 def least_diameter(network: Network) -> Optional[int]:
     """The least diameter with which the plan holds, if there is one (FORMATS.md#plan-text)."""
-    found = [farthest(network, members) for members in sets_in_order(network, network.traitors)]
-    return None if None in found else max(edges or 0 for edges in found)
+    neighbours, most = neighbour_numbers(network), 0
+    for members in sets_in_order(network, network.traitors):
+        edges = farthest(neighbours, members)
+        if edges is None:
+            return None
+        most = max(most, edges)
+    return most
 
 
 def longest_frame(header: Header) -> int:

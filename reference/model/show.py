@@ -2,14 +2,15 @@
 
 from __future__ import annotations
 
-from typing import Dict, List, Optional, Sequence, Tuple
+from dataclasses import dataclass
+from typing import Callable, Dict, Generic, Iterable, Iterator, List, Optional, Sequence, Tuple, TypeVar
 
-from .bundle import CAMPAIGN_MARK, Bundle, read_bundle, read_campaign
+from .bundle import CAMPAIGN_MARK, Bundle, Exhibit, read_bundle, read_campaign
 from .bundle import MARKS as BUNDLE_MARKS
 from .evidence import MARKS as EVIDENCE_MARKS
 from .evidence import Across, Claim, Departing, Evidence, Missing, Statement, Text, read_evidence
 from .faults import Cursor, Fault
-from .log import Decide, Entry, Recv, Send, Sign, Start, read_log
+from .log import Decide, Entry, Log, Recv, Send, Sign, Start, read_log
 from .network import Header, Path, read_header
 
 KINDS = {
@@ -19,9 +20,89 @@ KINDS = {
     4: "a log that departs from the algorithm",
     5: "two texts under one leaf in two runs",
 }
+Line, Part = TypeVar("Line"), TypeVar("Part")
 
 
-def listed(numbers: Sequence[int]) -> str:
+# How a file is told, as text or as JSON.
+
+
+@dataclass(frozen=True)
+class Form(Generic[Line]):
+    """The lines of a header of a file of this name, of a fault at a byte, of the end, and of what is whole."""
+
+    header: Callable[[str, Header], List[Line]]
+    fault: Callable[[str, int], Line]
+    end: Line
+    evidence: Callable[[Evidence], List[Line]]
+    campaign: Callable[[Sequence[Bundle]], List[Line]]
+    bundle: Callable[[int, Bundle], List[Line]]
+
+
+def _front(data: bytes, marks: Dict[int, bytes]) -> Optional[Tuple[Header, int]]:
+    """The header behind a mark, and the byte behind it; none where it doesn't read."""
+    version = next((number for number in marks if marks[number] == data[:4]), None)
+    cursor = Cursor(data, "H9")
+    try:
+        cursor.take(4)
+        return (read_header(cursor, version), cursor.place) if version else None
+    except Fault:
+        return None
+
+
+def _header_told(data: bytes, form: Form[Line]) -> Tuple[List[Line], bool]:
+    """The lines of bytes that begin with a header alone, and whether they are one."""
+    cursor = Cursor(data, "H9")
+    lines = form.header("header", read_header(cursor, None))
+    whole = cursor.at_end()
+    return lines + [form.end if whole else form.fault("left over", cursor.place)], whole
+
+
+def told(data: bytes, form: Form[Line]) -> Tuple[List[Line], bool]:
+    """The lines of a file in a form, and whether it is whole (FORMATS.md#shown-text)."""
+    evidence = data[:4] in EVIDENCE_MARKS.values()
+    try:
+        if data[:1] in (b"\x01", b"\x02"):
+            return _header_told(data, form)
+        if evidence:
+            return form.evidence(read_evidence(data)), True
+        if data.startswith(CAMPAIGN_MARK):
+            return form.campaign(read_campaign(data)), True
+        return form.bundle(0, read_bundle(data)), True
+    except Fault as fault:
+        front = _front(data, EVIDENCE_MARKS if evidence else BUNDLE_MARKS)
+        if front is None:
+            return [form.fault(fault.words, 0)], False
+        return form.header("evidence" if evidence else "bundle", front[0]) + [form.fault(fault.words, front[1])], False
+
+
+def placed(place: int, parts: Sequence[Part], length: Callable[[Part], int]) -> Iterator[Tuple[int, int, Part]]:
+    """Parts that follow one another from a byte on: the number, the byte and the part."""
+    for number, part in enumerate(parts):
+        yield number, place, part
+        place += length(part)
+
+
+def entries_of(place: int, log: Log) -> Iterator[Tuple[int, int, Entry]]:
+    """The entries of a log that begins at a byte, each with its number and its byte."""
+    return placed(place + 40, log.entries, lambda entry: len(entry.spell()))
+
+
+def logs_of(place: int, bundle: Bundle) -> Iterator[Tuple[int, Exhibit]]:
+    """The exhibits of a bundle that begins at a byte, each with the byte of its log."""
+    place += len(bundle.spell()) - sum(5 + len(exhibit.data) for exhibit in bundle.exhibits)
+    for _, begin, exhibit in placed(place, bundle.exhibits, lambda exhibit: 5 + len(exhibit.data)):
+        yield begin + 5, exhibit
+
+
+def runs_of(bundles: Sequence[Bundle]) -> Iterator[Tuple[int, int, Bundle]]:
+    """The bundles of a campaign, each with its number and its byte."""
+    return placed(5, bundles, lambda bundle: len(bundle.spell()))
+
+
+# As text.
+
+
+def listed(numbers: Iterable[int]) -> str:
     """Numbers parted by commas, or a minus (FORMATS.md#shown-text)."""
     return ",".join(str(number) for number in numbers) or "-"
 
@@ -69,30 +150,24 @@ def log_lines(header: Header, general: int, place: int, data: bytes) -> List[str
     except Fault as fault:
         return lines + [f"unreadable of {general} fault {fault.words}"]
     lines.append(f"says of {general} run {log.run_id.hex()} entries {len(log.entries)}")
-    place += 40
-    for number, entry in enumerate(log.entries):
-        lines.append(f"entry {number} of {general} byte {place} {_said(general, entry)}")
-        place += len(entry.spell())
-    return lines + [f"head of {general} byte {place}"]
+    lines += [f"entry {number} of {general} byte {at} {_said(general, entry)}" for number, at, entry in entries_of(place, log)]
+    return lines + [f"head of {general} byte {place + len(data) - len(log.signature)}"]
 
 
 def bundle_lines(place: int, bundle: Bundle) -> List[str]:
     """The lines of a bundle that begins at a byte (FORMATS.md#shown-text)."""
     lines = header_lines("bundle", bundle.header) + [f"faulty {listed(bundle.faulty)}"]
     lines += [f"walk {listed(walk)}" for walk in bundle.walks]
-    place += len(bundle.spell()) - sum(5 + len(exhibit.data) for exhibit in bundle.exhibits)
-    for exhibit in bundle.exhibits:
-        lines += log_lines(bundle.header, exhibit.general, place + 5, exhibit.data)
-        place += 5 + len(exhibit.data)
+    for at, exhibit in logs_of(place, bundle):
+        lines += log_lines(bundle.header, exhibit.general, at, exhibit.data)
     return lines + ["end"]
 
 
 def campaign_lines(bundles: Sequence[Bundle]) -> List[str]:
     """The lines of several runs (FORMATS.md#shown-text)."""
-    lines, place = [f"format campaign version 2 runs {len(bundles)}"], 5
-    for number, bundle in enumerate(bundles):
-        lines += [f"place {number} byte {place}"] + bundle_lines(place, bundle)
-        place += len(bundle.spell())
+    lines = [f"format campaign version 2 runs {len(bundles)}"]
+    for number, at, bundle in runs_of(bundles):
+        lines += [f"place {number} byte {at}"] + bundle_lines(at, bundle)
     return lines + ["end campaign"]
 
 
@@ -124,51 +199,13 @@ def evidence_lines(evidence: Evidence) -> List[str]:
     return lines + [f"evidence {'holds' if evidence.holds() else 'fails'}", "end"]
 
 
-def _front(data: bytes, marks: Dict[int, bytes]) -> Optional[Tuple[Header, int]]:
-    """The header behind a mark, and the byte behind it; none where it doesn't read."""
-    version = next((number for number in marks if marks[number] == data[:4]), None)
-    cursor = Cursor(data, "H9")
-    try:
-        cursor.take(4)
-        return (read_header(cursor, version), cursor.place) if version else None
-    except Fault:
-        return None
-
-
-def _faulty_lines(name: str, marks: Dict[int, bytes], data: bytes, fault: Fault) -> List[str]:
-    """The lines of what doesn't read (FORMATS.md#shown-text)."""
-    front = _front(data, marks)
-    if front is None:
-        return [f"fault {fault.words} byte 0"]
-    return header_lines(name, front[0]) + [f"fault {fault.words} byte {front[1]}"]
-
-
-def _alone_lines(data: bytes) -> Tuple[List[str], bool]:
-    """The lines of bytes that are read as a header alone, and whether they are one."""
-    cursor = Cursor(data, "H9")
-    try:
-        lines = header_lines("header", read_header(cursor, None))
-    except Fault as fault:
-        return [f"fault {fault.words} byte 0"], False
-    whole = cursor.at_end()
-    return lines + ["end" if whole else f"fault left over byte {cursor.place}"], whole
+AS_TEXT: Form[str] = Form(header_lines, lambda words, place: f"fault {words} byte {place}", "end", evidence_lines, campaign_lines,
+                          bundle_lines)
 
 
 def shown_lines(data: bytes) -> Tuple[List[str], bool]:
     """The lines of a file, and whether it is whole (FORMATS.md#shown-text)."""
-    if data[:1] in (b"\x01", b"\x02"):
-        return _alone_lines(data)
-    evidence = data[:4] in EVIDENCE_MARKS.values()
-    try:
-        if evidence:
-            return evidence_lines(read_evidence(data)), True
-        if data.startswith(CAMPAIGN_MARK):
-            return campaign_lines(read_campaign(data)), True
-        return bundle_lines(0, read_bundle(data)), True
-    except Fault as fault:
-        if evidence:
-            return _faulty_lines("evidence", EVIDENCE_MARKS, data, fault), False
-        return _faulty_lines("bundle", BUNDLE_MARKS, data, fault), False
+    return told(data, AS_TEXT)
 
 
 def shown_runs(data: bytes) -> List[bytes]:

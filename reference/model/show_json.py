@@ -2,16 +2,15 @@
 
 from __future__ import annotations
 
-from typing import Dict, List, Optional, Sequence, Tuple
+from typing import Dict, List, Sequence, Tuple
 
-from .bundle import CAMPAIGN_MARK, Bundle, read_bundle, read_campaign
-from .bundle import MARKS as BUNDLE_MARKS
-from .evidence import MARKS as EVIDENCE_MARKS
-from .evidence import Across, Departing, Evidence, Missing, read_evidence
-from .faults import Cursor, Fault
+from .bundle import Bundle
+from .evidence import Across, Departing, Evidence, Missing
+from .faults import Fault
 from .json_text import VERSION, Value, evidence_value, line_of, network_value
 from .log import Decide, Entry, Recv, Send, Sign, Start, read_log
-from .network import Header, Path, read_header
+from .network import Header, Path
+from .show import Form, entries_of, logs_of, runs_of, told
 
 
 def shown(what: str, **fields: object) -> Value:
@@ -54,31 +53,26 @@ def log_values(header: Header, general: int, place: int, data: bytes) -> List[Va
     except Fault as fault:
         return [shown("unreadable log", fault=fault.words, **stands)]
     values = [shown("shown log", run=log.run_id.hex(), entries=len(log.entries), **stands)]
-    place += 40
-    for number, entry in enumerate(log.entries):
-        values.append(shown("shown entry", entry=number, of=general, byte=place, **_said(general, entry)))
-        place += len(entry.spell())
-    decided = next(entry.order for entry in log.entries if isinstance(entry, Decide))
-    return values + [shown("shown head", of=general, byte=place, decided=decided)]
+    values += [shown("shown entry", entry=number, of=general, byte=at, **_said(general, entry))
+               for number, at, entry in entries_of(place, log)]
+    head = place + len(data) - len(log.signature)
+    return values + [shown("shown head", of=general, byte=head, decided=log.end.order)]
 
 
 def bundle_values(place: int, bundle: Bundle) -> List[Value]:
     """The objects of a bundle that begins at a byte (FORMATS.md#the-shown-file)."""
     values = header_values("bundle", bundle.header) + [shown("shown faulty", faulty=list(bundle.faulty))]
     values += [shown("shown walk", walk=list(walk)) for walk in bundle.walks]
-    place += len(bundle.spell()) - sum(5 + len(exhibit.data) for exhibit in bundle.exhibits)
-    for exhibit in bundle.exhibits:
-        values += log_values(bundle.header, exhibit.general, place + 5, exhibit.data)
-        place += 5 + len(exhibit.data)
+    for at, exhibit in logs_of(place, bundle):
+        values += log_values(bundle.header, exhibit.general, at, exhibit.data)
     return values + [shown("shown end")]
 
 
 def campaign_values(bundles: Sequence[Bundle]) -> List[Value]:
     """The objects of several runs (FORMATS.md#the-shown-file)."""
-    values, place = [shown("shown campaign", run_version=2, runs=len(bundles))], 5
-    for number, bundle in enumerate(bundles):
-        values += [shown("shown run", place=number, byte=place)] + bundle_values(place, bundle)
-        place += len(bundle.spell())
+    values = [shown("shown campaign", run_version=2, runs=len(bundles))]
+    for number, at, bundle in runs_of(bundles):
+        values += [shown("shown run", place=number, byte=at)] + bundle_values(at, bundle)
     return values + [shown("shown campaign end")]
 
 
@@ -93,54 +87,11 @@ def evidence_values(evidence: Evidence) -> List[Value]:
     return values + [evidence_value(evidence), shown("shown end")]
 
 
-def _front(data: bytes, marks: Dict[int, bytes]) -> Optional[Tuple[Header, int]]:
-    """The header behind a mark, and the byte behind it; none where it doesn't read."""
-    version = next((number for number in marks if marks[number] == data[:4]), None)
-    cursor = Cursor(data, "H9")
-    try:
-        cursor.take(4)
-        return (read_header(cursor, version), cursor.place) if version else None
-    except Fault:
-        return None
-
-
-def _faulty_values(name: str, marks: Dict[int, bytes], data: bytes, fault: Fault) -> List[Value]:
-    """The objects of what doesn't read (FORMATS.md#the-shown-file)."""
-    front = _front(data, marks)
-    if front is None:
-        return [shown("shown fault", fault=fault.words, byte=0)]
-    return header_values(name, front[0]) + [shown("shown fault", fault=fault.words, byte=front[1])]
-
-
-def _alone_values(data: bytes) -> Tuple[List[Value], bool]:
-    """The objects of bytes that are read as a header alone, and whether they are one."""
-    cursor = Cursor(data, "H9")
-    try:
-        values = header_values("header", read_header(cursor, None))
-    except Fault as fault:
-        return [shown("shown fault", fault=fault.words, byte=0)], False
-    whole = cursor.at_end()
-    return values + [shown("shown end") if whole else shown("shown fault", fault="left over", byte=cursor.place)], whole
-
-
-def shown_values(data: bytes) -> Tuple[List[Value], bool]:
-    """The objects of a file, and whether it is whole (FORMATS.md#the-shown-file)."""
-    if data[:1] in (b"\x01", b"\x02"):
-        return _alone_values(data)
-    evidence = data[:4] in EVIDENCE_MARKS.values()
-    try:
-        if evidence:
-            return evidence_values(read_evidence(data)), True
-        if data.startswith(CAMPAIGN_MARK):
-            return campaign_values(read_campaign(data)), True
-        return bundle_values(0, read_bundle(data)), True
-    except Fault as fault:
-        if evidence:
-            return _faulty_values("evidence", EVIDENCE_MARKS, data, fault), False
-        return _faulty_values("bundle", BUNDLE_MARKS, data, fault), False
+AS_JSON: Form[Value] = Form(header_values, lambda words, place: shown("shown fault", fault=words, byte=place), shown("shown end"),
+                            evidence_values, campaign_values, bundle_values)
 
 
 def show(given: bytes) -> Tuple[int, bytes]:
     """The lines of a file (FORMATS.md#the-shown-file)."""
-    values, whole = shown_values(given)
+    values, whole = told(given, AS_JSON)
     return 0 if whole else 1, b"".join(line_of(value) for value in values)

@@ -11,10 +11,8 @@ from model.bundle import CAMPAIGN_MARK, Bundle, Exhibit, read_bundle, read_campa
 from model.convict import convicted, rivals
 from model.evidence import (Across, Claim, Departing, Evidence, Head, Missing, Signed, Statement, Text, TwoOrders,
                             TwoTexts, read_evidence)
-from model.faults import Fault
 from model.follow import departs
 from model.log import Log, Recv, Sign, read_log
-from model.network import Header
 from model.run import play
 from model.scenario import Scenario, read_campaign_text, read_scenario
 

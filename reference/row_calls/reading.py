@@ -4,10 +4,11 @@ from __future__ import annotations
 
 import hashlib
 import os
-from typing import Dict, Iterable, List, Optional, Sequence
+from typing import Dict, List, Optional, Sequence
 
 from model.faults import Cursor
 from model.network import Header, read_header
+from model.show import listed  # noqa: F401
 
 TOP = os.path.dirname(os.path.dirname(os.path.dirname(os.path.abspath(__file__))))
 DATA = os.path.join(TOP, "crates", "rows", "data")
@@ -82,11 +83,6 @@ class Row:
 def header_in(data: bytes) -> Header:
     """The header at the front of some bytes."""
     return read_header(Cursor(data, "H9"), None)
-
-
-def listed(numbers: Iterable[int]) -> str:
-    """Numbers with commas between them, or `-` for none."""
-    return ",".join(str(number) for number in numbers) or "-"
 
 
 def digest_text(output: bytes) -> str:

@@ -2,13 +2,14 @@
 
 from __future__ import annotations
 
-from typing import Any, Callable, Dict, Tuple
+from typing import Callable, Dict, Tuple
 
 from model import keys
 from model.chain import Chain, read_chain
 from model.faults import Cursor
-from model.log import Recv, Send, Sign, Start, last_link, read_log
+from model.log import Sign, last_link, read_log
 from model.network import Header, Path
+from vector_cases.small import entry_text
 
 from .reading import Row, digest_text, listed
 
@@ -137,19 +138,6 @@ def chain_of(row: Row) -> str:
 
 
 # Logs.
-
-
-def entry_text(entry: Any) -> str:
-    """An entry in words, as `reference/vectors/log.json` has it."""
-    if isinstance(entry, Start):
-        return f"START general {entry.general} order {'none' if entry.own is None else entry.own}"
-    if isinstance(entry, Sign):
-        return f"SIGN order {entry.order} path {listed(entry.path)}"
-    if isinstance(entry, Send):
-        return f"SEND to {entry.to} order {entry.order} path {listed(entry.path)}"
-    if isinstance(entry, Recv):
-        return f"RECV from {entry.sender} order {entry.chain.order} path {listed(entry.chain.path)}"
-    return f"DECIDE set {listed(entry.orders)} order {entry.order}"
 
 
 def log(row: Row) -> str:

@@ -4,12 +4,14 @@ from __future__ import annotations
 
 from typing import Iterable, Optional, Sequence, Tuple
 
+from model.bundle import CAMPAIGN_MARK, Bundle, Exhibit
 from model.faults import Cursor
+from model.log import read_set
 from model.network import Header, read_header
 
 from .parts import Vector, command, edited, file_bytes, output_of, with_byte
 from .small import header_of, network_of, pair_header
-from .texts import TRIANGLE, ZEROS, one_slot_twice, run_piece, scenario_lines
+from .texts import TRIANGLE, ZEROS, everybody, one_slot_twice, run_piece, scenario_lines
 
 
 # Bundles.
@@ -18,12 +20,8 @@ from .texts import TRIANGLE, ZEROS, one_slot_twice, run_piece, scenario_lines
 def small_bundle(version: int = 1, slot: int = 0, faulty: int = 0, walks: Sequence[Sequence[int]] = ((0, 1),),
                  exhibits: Sequence[Tuple[int, bytes]] = (), header: Optional[Header] = None) -> bytes:
     """The bytes of a bundle of two generals, or of another header, with what is shown as logs."""
-    header = header or pair_header(version, slot)
-    parts = [b"SMB" + str(header.version).encode(), header.spell(), faulty.to_bytes(2, "big"),
-             bytes([len(walks)])]
-    parts += [bytes([len(walk), *walk]) for walk in walks] + [bytes([len(exhibits)])]
-    parts += [bytes([general]) + len(log).to_bytes(4, "big") + log for general, log in exhibits]
-    return b"".join(parts)
+    shown = tuple(Exhibit(general, log) for general, log in exhibits)
+    return Bundle(header or pair_header(version, slot), read_set(faulty), tuple(map(tuple, walks)), shown).spell()
 
 
 def bundle_faults() -> Iterable[Tuple[str, bytes]]:
@@ -88,7 +86,7 @@ def bundle_vectors() -> Iterable[Vector]:
 
 def several(*parts: bytes) -> bytes:
     """A campaign of bundles."""
-    return b"SMC2" + bytes([len(parts)]) + b"".join(parts)
+    return CAMPAIGN_MARK + bytes([len(parts)]) + b"".join(parts)
 
 
 def campaign_vectors() -> Iterable[Vector]:
@@ -210,8 +208,7 @@ def evidence_vectors() -> Iterable[Vector]:
 
 def held_evidence() -> Iterable[Vector]:
     """Evidence that `accuse` finds, and the same against another general."""
-    everybody = [(a, b) for a in range(4) for b in range(a + 1, 4)]
-    late = scenario_lines(4, everybody, traitors=2, order=0, seed=ZEROS,
+    late = scenario_lines(4, everybody(4), traitors=2, order=0, seed=ZEROS,
                           scripts={0: [], 1: ["make 2 2 1 0,1"]})
     heads = scenario_lines(3, TRIANGLE, traitors=1, seed=ZEROS, slot=1, scripts={1: ["twohead"]})
     cases = [("kind 1, two heads", 1, [run_piece(heads)]),

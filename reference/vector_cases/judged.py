@@ -8,7 +8,7 @@ from model.bundle import read_bundle
 
 from .handed_in import several, small_bundle
 from .parts import Piece, Vector, command, edited, file_bytes
-from .texts import LINE, PAIR_LINES, TRIANGLE, ZEROS, one_slot_twice, run_piece, scenario_lines, text_of
+from .texts import LINE, PAIR_LINES, TRIANGLE, ZEROS, everybody, one_slot_twice, run_piece, scenario_lines, text_of
 
 
 # Verdicts.
@@ -104,7 +104,6 @@ def verdict_vectors() -> Iterable[Vector]:
     yield command("examples/disputed.bundle: the logs of two disagree", "audit",
                   [{"file": "examples/disputed.bundle"}])
     square = [(0, 1), (1, 2), (2, 3), (0, 3)]
-    everybody = [(a, b) for a in range(4) for b in range(a + 1, 4)]
     held = {0: [], 1: ["make 2 2 1 0,1"]}
     cases = [("two generals", scenario_lines(2, [(0, 1)], seed=ZEROS)),
              ("two generals in slot 2", scenario_lines(2, [(0, 1)], seed=ZEROS, slot=2)),
@@ -113,11 +112,11 @@ def verdict_vectors() -> Iterable[Vector]:
              ("a traitor keeps two logs",
               scenario_lines(3, TRIANGLE, traitors=1, seed=ZEROS, scripts={1: ["twohead"]})),
              ("an order that is held back",
-              scenario_lines(4, everybody, traitors=2, order=0, seed=ZEROS, scripts=held)),
+              scenario_lines(4, everybody(4), traitors=2, order=0, seed=ZEROS, scripts=held)),
              ("the same, with one traitor more than planned",
-              scenario_lines(4, everybody, traitors=1, order=0, seed=ZEROS, scripts=held)),
+              scenario_lines(4, everybody(4), traitors=1, order=0, seed=ZEROS, scripts=held)),
              ("a receipt that is hidden",
-              scenario_lines(4, everybody, traitors=1, seed=ZEROS,
+              scenario_lines(4, everybody(4), traitors=1, seed=ZEROS,
                              scripts={1: ["pass 2 2 0 1 1", "hide 1 0 1"]})),
              ("the rest falls apart",
               scenario_lines(3, LINE, traitors=1, diameter=2, seed=ZEROS, scripts={1: []})),

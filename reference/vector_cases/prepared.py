@@ -52,7 +52,7 @@ def header_text_vectors() -> Iterable[Vector]:
     yield command("two generals with one edge", "header", pair)
     yield command("the same in slot 1", "header --slot 1", pair)
     yield command("edges in any order and direction", "header --slot=3",
-                  text_of(header_lines(3, [(2, 1), (1, 0)], traitors=1, diameter=2, orders=15, choice=1)))
+                  text_of(header_lines(3, [(2, 1), (1, 0)], diameter=2, orders=15, choice=1)))
     digits = "0" * 64
     cases = [("no text", ""), ("no line feed at the end", pair[:-1]), ("no line end", other_line(9)),
              ("a root too few", other_line(8)), ("a root too many", other_line(9, f"root {digits}", "end")),

@@ -10,8 +10,10 @@ from model.chain import Chain, read_chain
 from model.faults import Cursor, Fault
 from model.log import Decide, Recv, Send, Sign, Start, read_log
 from model.network import Header, Network, read_header
+from model.show import listed
 
 from .parts import Vector, given_as, packed, reading, with_byte
+from .texts import everybody
 
 
 # Keys.
@@ -74,8 +76,7 @@ def key_vectors() -> Iterable[Vector]:
 def network_of(generals: int, edges: Optional[Sequence[Tuple[int, int]]] = None, traitors: int = 0,
                diameter: int = 1, orders: int = 2, choice: int = 0) -> Network:
     """A network; where no edges are given, all are neighbours."""
-    everybody = [(a, b) for a in range(generals) for b in range(a + 1, generals)]
-    return Network(generals, tuple(everybody if edges is None else edges), traitors, diameter, orders, choice)
+    return Network(generals, tuple(everybody(generals) if edges is None else edges), traitors, diameter, orders, choice)
 
 
 def header_of(network: Network, version: int = 1, slot: int = 0) -> Header:
@@ -181,22 +182,17 @@ def log_header() -> Header:
     return header_of(network_of(3, None, 1, 1, 3))
 
 
-def path_text(path: Sequence[int]) -> str:
-    """A path with commas."""
-    return ",".join(str(general) for general in path)
-
-
 def entry_text(entry: Any) -> str:
     """An entry in words."""
     if isinstance(entry, Start):
         return f"START general {entry.general} order {'none' if entry.own is None else entry.own}"
     if isinstance(entry, Sign):
-        return f"SIGN order {entry.order} path {path_text(entry.path)}"
+        return f"SIGN order {entry.order} path {listed(entry.path)}"
     if isinstance(entry, Send):
-        return f"SEND to {entry.to} order {entry.order} path {path_text(entry.path)}"
+        return f"SEND to {entry.to} order {entry.order} path {listed(entry.path)}"
     if isinstance(entry, Recv):
-        return f"RECV from {entry.sender} order {entry.chain.order} path {path_text(entry.chain.path)}"
-    return f"DECIDE set {path_text(entry.orders) or '-'} order {entry.order}"
+        return f"RECV from {entry.sender} order {entry.chain.order} path {listed(entry.chain.path)}"
+    return f"DECIDE set {listed(entry.orders)} order {entry.order}"
 
 
 def log_fields(data: bytes) -> Vector:

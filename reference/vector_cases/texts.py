@@ -2,6 +2,7 @@
 
 from __future__ import annotations
 
+from itertools import combinations
 from typing import Any, Dict, Iterable, List, Optional, Sequence, Tuple
 
 import sm
@@ -19,10 +20,15 @@ def scenario_lines(generals: int, edges: Sequence[Tuple[int, int]], **more: Any)
     numbers.update({word: value for word, value in more.items() if word in numbers})
     lines = [f"generals {generals}", *(f"edge {a} {b}" for a, b in edges)]
     lines += [f"{word} {value}" for word, value in numbers.items()]
-    lines += [f"{word} {more[word]}" for word in ("seed", "slot") if word in more]
+    lines += [f"{word} {more[word]}" for word in ("seed", "slot") if more.get(word) is not None]
     for general, script in sorted(more.get("scripts", {}).items()):
         lines += [f"script {general}", *script]
     return lines + ["end"]
+
+
+def everybody(generals: int) -> List[Tuple[int, int]]:
+    """All edges between so many generals."""
+    return list(combinations(range(generals), 2))
 
 
 def text_of(lines: Sequence[str]) -> str:

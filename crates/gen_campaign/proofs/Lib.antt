@@ -1,4 +1,5 @@
 pub mod AgainTexts
+pub mod CampaignLengths
 pub mod CampaignLaws
 pub mod FoundTexts
 pub mod Joined

@@ -1,14 +1,17 @@
 pub mod Campaign
 pub mod CampaignMaking
+pub mod CampaignParts
 pub mod CampaignPlaces
 pub mod CampaignReading
 pub mod CampaignSpelling
 pub mod CampaignText
 pub mod CampaignTextReading
 pub mod CampaignVerdictText
+pub mod FaultText
 pub mod JoinsTested
 pub mod Judged
 pub mod Leaves
 pub mod OneBundle
 pub mod OneText
 pub mod Series
+pub mod WholeFile

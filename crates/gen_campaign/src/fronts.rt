@@ -5,6 +5,9 @@ ghost use Rattle.gen_campaign.specs.CampaignSpelling.{campaign_mark};
 
 use crate::campaigns::CAMPAIGN_MARK;
 
+/// The number of bytes before the first bundle of several runs.
+pub const CAMPAIGN_FRONT: usize = 5;
+
 /// Returns the bytes that stand before the bundles of this many runs: `SMC2` and the number of runs. With
 /// them and the spellings of the bundles a campaign is written without a copy of these spellings.
 pub fn several_front(runs: u8) -> [u8; 5]

@@ -30,15 +30,16 @@ use Rattle.gen_audit.specs.WorldBundle.{HasWalks, IsAcceptable, bundle_of}
 use Rattle.gen_audit.proofs.BundleLaws.{bundle_only}
 use Rattle.gen_audit.proofs.RunBundles.{world_is_bundle}
 use Rattle.gen_audit.proofs.Worlds.{world_is_accepted}
-use Rattle.gen_jobs.specs.Accepted.{IsSound, IsStrictlySound, RunsAreAccepted, RunsAreAcceptedBy, RunsAreJudged, RunsAreJudgedBy, RunsAreRead, alone}
+use Rattle.gen_jobs.specs.Accepted.{IsSound, IsSoundIf, IsStrictlySound, RunsAreAccepted, RunsAreAcceptedBy, RunsAreJudged, RunsAreJudgedBy, RunsAreRead, alone}
 use Rattle.gen_json.specs.OriginData.{Origin}
 use Rattle.gen_jobs.specs.Asking.{AuditsAs, IsAuditedFrom, counts_as_no, has_few, have_few, shared_roots}
-use Rattle.gen_jobs.specs.Audit.{Audits, AuditsShown, IsAudited, is_no}
+use Rattle.gen_jobs.specs.Audit.{Audits, is_no}
 use Rattle.gen_jobs.specs.Holding.{IsHeldAs}
 use Rattle.gen_jobs.specs.Judging.{JudgesRun}
-use Rattle.gen_jobs.specs.declared.asked.Asked.{Asked}
-use Rattle.gen_jobs.specs.declared.faulty.Faulty.{Faulty}
-use Rattle.gen_jobs.specs.declared.faulty.Faulty.TheVariants.{Listed, These}
+use Rattle.gen_jobs.specs.Origins.{nothing_asked}
+use Rattle.gen_asked.specs.declared.asked.Asked.{Asked}
+use Rattle.gen_asked.specs.declared.faulty.Faulty.{Faulty}
+use Rattle.gen_asked.specs.declared.faulty.Faulty.TheVariants.{Listed, These}
 use Rattle.gen_jobs.specs.Run.{IsRunAnswer}
 
 -- the bytes of what is shown stand in the bundle's
@@ -99,31 +100,13 @@ shown_alone input text said run below shown spelled =
     let ours = (runs_are_read input text said run below).1 in
     ok_is {F = CampaignFault} shown (alone (bundle_of run.scenario run.walks)) (sym (campaign_only text shown spelled) ∙ ours)
 
--- and what is made of it
-audits_run : (input text report : List ℕ) (said negative : Bool) (run : IsRunAnswer input text said) → AreBelow 256 text → IsAudited text report negative → Audits None (bundle_of run.scenario run.walks) report negative
-audits_run input text report said negative run below audited =
-    subst (λ (c : CampaignBundle). AuditsShown None c.alone c.bundles report negative) (shown_alone input text said run below audited.shown audited.spelled) audited.audits
-
 -- the audit of the bundle of a sound run says no no
 accepts : (s : Scenario) (walks : List (List ℕ)) (origin : Option Origin) (report : List ℕ) (negative : Bool) → IsScenario s → HasWalks s walks → IsSound s → Audits origin (bundle_of s walks) report negative → negative ≡ false
 accepts s walks origin report negative ok has sound audits =
     let fine = is_acceptable s walks ok has sound in
     audits.negative_is ∙ yes_is audits.verdict (world_is_accepted s walks fine audits.verdict audits.judged)
 
-pub runs_are_accepted : RunsAreAccepted
-runs_are_accepted input text report said negative run below sound audited =
-    accepts run.scenario run.walks None report negative (is_lawful input text said run) run.has_walks sound (audits_run input text report said negative run below audited)
-
-pub runs_are_judged : RunsAreJudged
-runs_are_judged input text report said negative run below audited =
-    let judges : JudgesRun None run.scenario report negative = record {
-      walks = run.walks;
-      has_walks = run.has_walks;
-      audits = audits_run input text report said negative run below audited;
-    } in
-    record { scenario = run.scenario; spelled = run.spelled; judges = record { said = report; no = negative; is_said = judges; text_is = refl; negative_is = refl } }
-
--- ---- the same with what is asked for
+-- ---- the laws
 
 -- if no other list is asked for, what is held is what is shown
 as_listed : (faulty : Faulty) (shown held : CampaignBundle) → faulty ≡ Listed → IsHeldAs faulty shown held → held ≡ shown
@@ -174,3 +157,17 @@ runs_are_judged_by input text report said negative asked origin strict run below
       spelled = run.spelled;
       judges = record { said = by.said; no = by.no; is_said = judges; text_is = by.text_is; negative_is = counts };
     }
+
+-- ---- where nothing is asked
+
+-- what is not asked strictly asks no more of a scenario
+pub not_strictly : (s : Scenario) → IsSoundIf false s
+not_strictly s e = absurd cc
+
+pub runs_are_accepted : RunsAreAccepted
+runs_are_accepted input text report said negative run below sound audited =
+    runs_are_accepted_by input text report said negative nothing_asked None false run below sound (not_strictly run.scenario) refl audited
+
+pub runs_are_judged : RunsAreJudged
+runs_are_judged input text report said negative run below audited =
+    runs_are_judged_by input text report said negative nothing_asked None false run below refl audited

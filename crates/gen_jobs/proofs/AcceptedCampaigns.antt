@@ -1,5 +1,5 @@
 -- What the job campaign writes the job audit reads, and accepts.
-use Rattle.std.proofs.Common.{◌≡◌, ◌<◌, ◌∷◌, ℕ, Bool, true, inl, inr, List, [], map, All, AllPairs, Contains, refl, sym, ap, subst, arith, ◌∙◌}
+use Rattle.std.proofs.Common.{◌≡◌, ◌<◌, ◌∷◌, ℕ, Bool, true, false, inl, inr, List, [], map, All, AllPairs, Contains, refl, sym, ap, subst, arith, ◌∙◌}
 use Rattle.std.specs.Prelude.{None}
 use Rattle.std.specs.List.{AllZip, flat_map, range_with_len}
 use Rattle.std.proofs.lemmas.List.Elements.{All-contains, All-head, All-tail, Contains-append_right}
@@ -32,10 +32,10 @@ use Rattle.gen_jobs.specs.Accepted.{IsSound, IsSoundIf}
 use Rattle.gen_jobs.specs.AcceptedCampaigns.{CampaignsAreAccepted, CampaignsAreAcceptedBy, CampaignsAreRead, together}
 use Rattle.gen_plan.specs.EqualRoots.{equal_roots}
 use Rattle.gen_jobs.specs.Asking.{AuditsAs, has_few, have_few, shared_roots}
-use Rattle.gen_jobs.specs.Audit.{AuditsShown, AuditsRuns, IsAudited}
 use Rattle.gen_jobs.specs.Campaigning.{IsCampaignRun}
+use Rattle.gen_jobs.specs.Origins.{nothing_asked}
 use Rattle.gen_jobs.specs.Run.{IsOfRun}
-use Rattle.gen_jobs.proofs.Accepted.{counts_not, few_scripted, held_shown, is_acceptable, shown_bytes}
+use Rattle.gen_jobs.proofs.Accepted.{counts_not, few_scripted, held_shown, is_acceptable, not_strictly, shown_bytes}
 
 -- ---- the scenarios of a campaign
 
@@ -127,11 +127,6 @@ shown_together : (input text : List ℕ) (said : Bool) (run : IsCampaignRun inpu
 shown_together input text said run below shown spelled =
     ok_is {F = CampaignFault} shown (together run.makes.0) (sym (campaign_only text shown spelled) ∙ campaigns_are_read input text said run below)
 
--- and they are audited
-audits_runs : (input text report : List ℕ) (said negative : Bool) (run : IsCampaignRun input text said) → AreBelow 256 text → IsAudited text report negative → AuditsRuns None run.makes.0 report negative
-audits_runs input text report said negative run below audited =
-    subst (λ (c : CampaignBundle). AuditsShown None c.alone c.bundles report negative) (shown_together input text said run below audited.shown audited.spelled) audited.audits
-
 -- each bundle of a sound campaign supports a yes
 all_supported : (input text : List ℕ) (said : Bool) (run : IsCampaignRun input text said) → All IsSound run.runs → All IsSupported run.makes.0
 all_supported input text said run sound = All_of IsSupported run.makes.0 (λ b at.
@@ -139,13 +134,6 @@ all_supported input text said run sound = All_of IsSupported run.makes.0 (λ b a
     let ok = lawful run.spelled.behind run.runs run.spelled.texts_are r.0 r.1 in
     let fine = is_acceptable r.0 r.2.0 ok r.2.1 (All-contains IsSound run.runs r.0 sound r.1) in
     subst IsSupported (sym r.2.2) (world_is_supported r.0 r.2.0 fine))
-
-pub campaigns_are_accepted : CampaignsAreAccepted
-campaigns_are_accepted input text report said negative run below sound audited =
-    let audits = audits_runs input text report said negative run below audited in
-    audits.supported.1 (all_supported input text said run sound)
-
--- ---- the same with what is asked for
 
 few_held : (strict : Bool) (runs : List Scenario) (bundles : List Bundle) → AllZip IsOfRun runs bundles → All (IsSoundIf strict) runs → strict ≡ true → have_few bundles ≡ true
 few_held strict [] [] are sound e = refl
@@ -172,3 +160,9 @@ campaigns_are_accepted_by input text report said negative asked origin strict ru
     let not_said = by.is_said.supported.1 (all_supported input text said run sound) in
     by.negative_is ∙ counts_not strict by.no (have_few bundles) (shared_roots bundles) not_said
     (few_held strict run.runs bundles are strictly) (roots_apart strict run.runs bundles are strictly)
+
+-- the same where nothing is asked
+pub campaigns_are_accepted : CampaignsAreAccepted
+campaigns_are_accepted input text report said negative run below sound audited =
+    let not_strict = All_of (IsSoundIf false) run.runs (λ s at. not_strictly s) in
+    campaigns_are_accepted_by input text report said negative nothing_asked None false run below sound not_strict refl audited

@@ -1,5 +1,6 @@
 -- The faults of jobs that ask for runs.
-use Rattle.std.proofs.Common.{List, ℕ, [], ◌∷◌, inr}
+use Rattle.std.proofs.Common.{◌<◌, List, ℕ, [], ◌∷◌, Result, Ok, Err, arith, inr}
+use Rattle.std.specs.Prelude.{IfErr}
 use Rattle.gen_types.specs.Spelled.{Spells}
 use Rattle.gen_net.specs.Header.{run_id_of}
 use Rattle.gen_audit.specs.Faults.{IsFaultBy}
@@ -9,32 +10,19 @@ use Rattle.gen_campaign.specs.Campaign.{CampaignBundle, IsCampaign}
 use Rattle.gen_campaign.specs.CampaignSpelling.{campaign_spelling}
 use Rattle.gen_convict.specs.EvidenceReading.{IsWhole}
 use Rattle.gen_convict.specs.EvidenceSpelling.{HeaderAndEvidence, whole_spelling}
-use Rattle.gen_jobs.specs.AskedRuns.{AreAsked, run_ids}
+use Rattle.gen_asked.specs.AskedRuns.{AreAsked}
+use Rattle.gen_jobs.specs.RunIds.{run_ids}
 use Rattle.gen_jobs.specs.Asking.{IsHeldFault, IsOfOther, IsShowFault, OthersAsked}
 use Rattle.gen_jobs.specs.Audit.{ByWorkers}
 use Rattle.gen_jobs.specs.Failing.{audit_failure}
 use Rattle.gen_jobs.specs.Holding.{IsHoldFault}
-use Rattle.gen_jobs.specs.declared.asked.Asked.{Asked}
-use Rattle.gen_jobs.specs.declared.asked_runs.AskedRuns.{AskedRuns}
+use Rattle.gen_asked.specs.declared.asked.Asked.{Asked}
+use Rattle.gen_asked.specs.declared.asked_runs.AskedRuns.{AskedRuns}
 use Rattle.gen_jobs.specs.declared.ends.JobFault.{JobFault}
 use Rattle.gen_jobs.specs.declared.ends.JobFault.TheVariants as faults
+use Rattle.gen_jobs.specs.declared.ends.Output.{Output}
 
--- what is shown is of other runs
-pub others_shown : (asked : AskedRuns) (input : List ℕ) (shown : CampaignBundle) (f : JobFault) → Spells IsCampaign campaign_spelling input shown → OthersAsked asked (run_ids shown.bundles) f → IsShowFault asked input f
-others_shown asked input shown faults.Memory is h = tt
-others_shown asked input shown faults.OtherRun is h = record { shown = shown; spelled = is; others = h }
-others_shown asked input shown faults.Thread is h = absurd h
-others_shown asked input shown faults.Read is h = absurd h
-others_shown asked input shown faults.Write is h = absurd h
-others_shown asked input shown faults.Open is h = absurd h
-others_shown asked input shown (faults.Scenario f) is h = absurd h
-others_shown asked input shown (faults.Campaign f) is h = absurd h
-others_shown asked input shown (faults.Evidence f) is h = absurd h
-others_shown asked input shown (faults.Log f) is h = absurd h
-others_shown asked input shown (faults.Seed f) is h = absurd h
-others_shown asked input shown (faults.EqualRoots a b) is h = absurd h
-
--- the same where workers look
+-- what is shown is of other runs, where workers look
 pub others_by : (workers : ℕ) (asked : AskedRuns) (input : List ℕ) (shown : CampaignBundle) (f : JobFault) → Spells IsCampaign campaign_spelling input shown → OthersAsked asked (run_ids shown.bundles) f → ByWorkers workers (IsShowFault asked input) f
 others_by workers asked input shown faults.Memory is h = tt
 others_by workers asked input shown faults.OtherRun is h = record { shown = shown; spelled = is; others = h }
@@ -97,3 +85,24 @@ audit_held workers asked input audits.Thread h = h
 
 -- the faults of work on what is shown, with the generals that are asked for, are the job's
 pub ruleset held_faults = (others_held, lacks_held, audit_held)
+
+-- ---- in the caller's thread
+
+-- a fault by one worker is one by any number of them
+more_workers : (workers : ℕ) (F : JobFault → Type 0) (f : JobFault) → ByWorkers 1 F f → ByWorkers workers F f
+more_workers workers F faults.Thread h = absurd (omega (arith, h))
+more_workers workers F faults.Memory h = h
+more_workers workers F faults.OtherRun h = h
+more_workers workers F faults.Read h = h
+more_workers workers F faults.Write h = h
+more_workers workers F faults.Open h = h
+more_workers workers F (faults.Scenario f) h = h
+more_workers workers F (faults.Campaign f) h = h
+more_workers workers F (faults.Evidence f) h = h
+more_workers workers F (faults.Log f) h = h
+more_workers workers F (faults.Seed f) h = h
+more_workers workers F (faults.EqualRoots a b) h = h
+
+pub by_more : (workers : ℕ) (F : JobFault → Type 0) (answer : Result Output JobFault) → IfErr answer (ByWorkers 1 F) → IfErr answer (ByWorkers workers F)
+by_more workers F (Ok output) h = tt
+by_more workers F (Err fault) h = more_workers workers F fault h

@@ -21,7 +21,7 @@ use Rattle.gen_campaign.specs.Campaign.{AreRuns, AreShown, CampaignBundle, IsCam
 use Rattle.gen_campaign.specs.CampaignSpelling.{campaign_spelling}
 use Rattle.gen_prepare.specs.Holding as prepared
 use Rattle.gen_jobs.specs.Holding.{IsHeld, IsHeldAs, first_lack, lack_fault, lacks}
-use Rattle.gen_jobs.specs.declared.faulty.Faulty.TheVariants.{These}
+use Rattle.gen_asked.specs.declared.faulty.Faulty.TheVariants.{These}
 use Rattle.gen_jobs.proofs.AccusedRuns.{not_false}
 
 -- ---- one bundle

@@ -3,7 +3,6 @@ pub mod AcceptedCampaigns
 pub mod Accused
 pub mod AccusedRuns
 pub mod AskedFaults
-pub mod AskedTexts
 pub mod Audited
 pub mod Bundling
 pub mod Delivering
@@ -11,8 +10,7 @@ pub mod Drawn
 pub mod Held
 pub mod JudgedRuns
 pub mod Known
-pub mod Named
-pub mod Planned
 pub mod Reading
 pub mod RunsOf
 pub mod Shown
+pub mod Unwritten

@@ -13,11 +13,12 @@ use Rattle.gen_campaign.specs.Campaign.{CampaignBundle}
 use Rattle.gen_campaign.specs.CampaignReading.{whole_campaign}
 use Rattle.gen_audit.specs.WorldBundle.{bundle_of}
 use Rattle.gen_json.specs.OriginData.{Origin}
-use Rattle.gen_jobs.specs.Asking.{IsAuditedFrom, IsJudgedFrom}
-use Rattle.gen_jobs.specs.Audit.{IsAudited}
+use Rattle.gen_jobs.specs.Asking.{IsAuditedBy, IsAuditedFrom, IsJudgedFrom}
+use Rattle.gen_jobs.specs.Origins.{nothing_asked}
 use Rattle.gen_jobs.specs.Run.{IsRunAnswer}
-use Rattle.gen_jobs.specs.declared.asked.Asked.{Asked}
-use Rattle.gen_jobs.specs.declared.faulty.Faulty.TheVariants.{Listed}
+use Rattle.gen_asked.specs.declared.asked.Asked.{Asked}
+use Rattle.gen_asked.specs.declared.faulty.Faulty.TheVariants.{Listed}
+use Rattle.gen_asked.specs.declared.forms.Form.TheVariants.{Text}
 
 -- a bundle that stands alone, as a `CampaignBundle`
 abbrev pub alone : Bundle → CampaignBundle
@@ -42,7 +43,8 @@ pub record IsSound (s : Scenario) : Type 0 where
 abbrev pub RunsAreAccepted : Type 0
 RunsAreAccepted =
     (input text report : List ℕ) (said negative : Bool) (run : IsRunAnswer input text said)
-    → AreBelow 256 text → IsSound run.scenario → IsAudited text report negative → negative ≡ false
+    → AreBelow 256 text → IsSound run.scenario
+    → IsAuditedBy nothing_asked Text false None text report negative → negative ≡ false
 
 -- at most m generals have scripts, and no two generals have the same root
 pub record IsStrictlySound (s : Scenario) : Type 0 where
@@ -66,7 +68,8 @@ RunsAreAcceptedBy =
 abbrev pub RunsAreJudged : Type 0
 RunsAreJudged =
     (input text report : List ℕ) (said negative : Bool) → IsRunAnswer input text said → AreBelow 256 text
-    → IsAudited text report negative → IsJudgedFrom None false input report negative
+    → IsAuditedBy nothing_asked Text false None text report negative
+    → IsJudgedFrom None false input report negative
 
 -- the same in any form, wherever the answer is said to come from, of any runs that are asked for, and asked
 -- strictly or not, if no other list of faulty generals is asked for

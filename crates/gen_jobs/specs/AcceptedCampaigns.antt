@@ -1,16 +1,17 @@
 -- What the job campaign writes is read by the job audit, which accepts it.
-use Rattle.std.specs.Prelude.{ℕ, ◌≡◌, Bool, false, List, All, Option, Ok}
+use Rattle.std.specs.Prelude.{ℕ, ◌≡◌, Bool, false, List, All, Option, None, Ok}
 use Rattle.gen_log.specs.Fields.{AreBelow}
 use Rattle.gen_audit.specs.Bundle.{Bundle}
 use Rattle.gen_campaign.specs.Campaign.{CampaignBundle}
 use Rattle.gen_campaign.specs.CampaignReading.{whole_campaign}
 use Rattle.gen_jobs.specs.Accepted.{IsSound, IsSoundIf}
 use Rattle.gen_json.specs.OriginData.{Origin}
-use Rattle.gen_jobs.specs.Asking.{IsAuditedFrom}
-use Rattle.gen_jobs.specs.Audit.{IsAudited}
+use Rattle.gen_jobs.specs.Asking.{IsAuditedBy, IsAuditedFrom}
 use Rattle.gen_jobs.specs.Campaigning.{IsCampaignRun}
-use Rattle.gen_jobs.specs.declared.asked.Asked.{Asked}
-use Rattle.gen_jobs.specs.declared.faulty.Faulty.TheVariants.{Listed}
+use Rattle.gen_jobs.specs.Origins.{nothing_asked}
+use Rattle.gen_asked.specs.declared.asked.Asked.{Asked}
+use Rattle.gen_asked.specs.declared.faulty.Faulty.TheVariants.{Listed}
+use Rattle.gen_asked.specs.declared.forms.Form.TheVariants.{Text}
 
 -- the bundles of the runs of a campaign, as a `CampaignBundle`
 abbrev pub together : List Bundle → CampaignBundle
@@ -27,7 +28,8 @@ CampaignsAreRead =
 abbrev pub CampaignsAreAccepted : Type 0
 CampaignsAreAccepted =
     (input text report : List ℕ) (said negative : Bool) (run : IsCampaignRun input text said)
-    → AreBelow 256 text → All IsSound run.runs → IsAudited text report negative → negative ≡ false
+    → AreBelow 256 text → All IsSound run.runs
+    → IsAuditedBy nothing_asked Text false None text report negative → negative ≡ false
 
 -- the same of the job audit in any form, wherever its answer is said to come from, of any runs that are asked
 -- for, and asked strictly or not, if no other list of faulty generals is asked for

@@ -1,10 +1,7 @@
 -- What the job accuse makes of its input.
 use Rattle.std.specs.Prelude.{ℕ, ◌≡◌, ◌<◌, ◌⊎◌, Bool, true, false, List, [], ◌∷◌, ◌++◌, All, Contains}
-use Rattle.gen_types.specs.Spelled.{Spells}
 use Rattle.gen_net.specs.Header.{RunHeader}
 use Rattle.gen_audit.specs.Bundle.{Bundle}
-use Rattle.gen_campaign.specs.Campaign.{CampaignBundle, IsCampaign}
-use Rattle.gen_campaign.specs.CampaignSpelling.{campaign_spelling}
 use Rattle.gen_campaign.specs.Judged.{shown_bundles}
 use Rattle.gen_convict.specs.Across.{IsFirstAcross}
 use Rattle.gen_convict.specs.AcrossLaws.{HoldAcross}
@@ -79,9 +76,3 @@ abbrev pub AccusesRuns : List Bundle → ℕ → List ℕ → Bool → Type 0
 AccusesRuns bundles general text negative =
     AccusesWithin bundles general text false × (negative ≡ false)
     ⊎ (All (HoldsNone general) bundles × AccusesAcross bundles general text negative)
-
--- The text is the evidence against the general that the bundle or campaign in the input holds.
-pub record IsAccused (general : ℕ) (input text : List ℕ) (negative : Bool) : Type 0 where
-  pub shown : CampaignBundle
-  pub spelled : Spells IsCampaign campaign_spelling input shown
-  pub accuses : AccusesRuns shown.bundles general text negative

@@ -19,20 +19,19 @@ use Rattle.gen_campaign.specs.declared.campaign_fault.CampaignFault.{CampaignFau
 use Rattle.gen_json.specs.OriginData.{Origin}
 use Rattle.gen_show.specs.HeaderText.{equal_roots_lines}
 use Rattle.gen_jobs.specs.Accusing.{AccusesRuns}
-use Rattle.gen_jobs.specs.AskedRuns.{AreAsked, run_ids}
+use Rattle.gen_asked.specs.AskedRuns.{AreAsked}
+use Rattle.gen_jobs.specs.RunIds.{run_ids}
 use Rattle.gen_jobs.specs.Audit.{AuditsShown, IsAuditFault}
 use Rattle.gen_jobs.specs.Checking.{IsEvidenceFault, Tells}
 use Rattle.gen_jobs.specs.Drawing.{DrawsForm}
 use Rattle.gen_jobs.specs.Holding.{IsHeldAs, held_fault}
 use Rattle.gen_jobs.specs.Judging.{JudgesRun}
 use Rattle.gen_jobs.specs.Origins.{nothing_asked, origin_in}
-use Rattle.gen_jobs.specs.declared.asked.Asked.{Asked}
-use Rattle.gen_jobs.specs.declared.asked_runs.AskedRuns.{AskedRuns}
-use Rattle.gen_jobs.specs.declared.faulty.Faulty.TheVariants.{Listed}
+use Rattle.gen_asked.specs.declared.asked.Asked.{Asked}
+use Rattle.gen_asked.specs.declared.asked_runs.AskedRuns.{AskedRuns}
 use Rattle.gen_jobs.specs.declared.ends.JobFault.{JobFault}
 use Rattle.gen_jobs.specs.declared.ends.JobFault.TheVariants as faults
-use Rattle.gen_jobs.specs.declared.forms.Form.{Form}
-use Rattle.gen_jobs.specs.declared.forms.Form.TheVariants.{Text, Json}
+use Rattle.gen_asked.specs.declared.forms.Form.{Form}
 
 -- memory was refused, or the runs with these ids are not the ones that are asked for
 abbrev pub OthersAsked : AskedRuns → List (List ℕ) → JobFault → Type 0
@@ -136,18 +135,8 @@ AuditsAs origin strict shown text negative =
     Counts origin strict (have_few shown.bundles) (shared_roots shown.bundles)
     (AuditsShown origin shown.alone shown.bundles) text negative
 
--- the text is that of the judgement on the bundle or campaign in the input, of the runs that are asked for
-abbrev pub IsAuditedAs : AskedRuns → Bool → List ℕ → List ℕ → Bool → Type 0
-IsAuditedAs asked strict input text negative = Shows asked (AuditsAs None strict) input text negative
-
--- the same in a form, of an input without a name
-abbrev pub IsAuditedIn : Form → AskedRuns → Bool → List ℕ → List ℕ → Bool → Type 0
-IsAuditedIn form asked strict input text negative =
-    Shows asked (AuditsAs (origin_in form None (record { runs = asked; faulty = Listed }) input) strict) input
-    text negative
-
--- the same with the generals that are asked for held for faulty: as text, or as JSON with where the answer
--- comes from
+-- The text is that of the judgement on the bundle or campaign in the input, of the runs that are asked for,
+-- with the generals that are asked for held for faulty: as text, or as JSON with where the answer comes from.
 abbrev pub IsAuditedFrom : Asked → Option Origin → Bool → List ℕ → List ℕ → Bool → Type 0
 IsAuditedFrom asked origin strict input text negative =
     ShowsHeld asked (AuditsAs origin strict) input text negative
@@ -161,11 +150,8 @@ IsAuditedBy asked form strict name input text negative =
 abbrev pub DrawsAll : CampaignBundle → List ℕ → Bool → Type 0
 DrawsAll shown text negative = DrawsForm shown.alone shown.bundles text × (negative ≡ false)
 
--- the text is the picture of the bundle or campaign in the input, of the runs that are asked for
-abbrev pub IsDrawnOf : AskedRuns → List ℕ → List ℕ → Bool → Type 0
-IsDrawnOf asked input text negative = Shows asked DrawsAll input text negative
-
--- the same with the generals that are asked for held for faulty
+-- the text is the picture of the bundle or campaign in the input, of the runs that are asked for, with the
+-- generals that are asked for held for faulty
 abbrev pub IsDrawnBy : Asked → List ℕ → List ℕ → Bool → Type 0
 IsDrawnBy asked input text negative = ShowsHeld asked DrawsAll input text negative
 
@@ -186,9 +172,6 @@ pub record IsCheckedIn (form : Form) (asked : AskedRuns) (input text : List ℕ)
   pub spelled : Spells IsWhole whole_spelling input read
   pub run : AreAsked asked (run_id_of read.header ∷ [])
   pub tells : Tells form read text negative
-
-abbrev pub IsCheckedOf : AskedRuns → List ℕ → List ℕ → Bool → Type 0
-IsCheckedOf = IsCheckedIn Text
 
 -- The input spells evidence, and not of the run that is asked for.
 pub record IsOfOther (asked : AskedRuns) (input : List ℕ) : Type 0 where

@@ -1,6 +1,5 @@
 -- What the job audit makes of its input.
 use Rattle.std.specs.Prelude.{◌≡◌, ◌<◌, ◌↔◌, ℕ, Bool, true, false, List, [], ◌∷◌, All, Option, Some, None, Err}
-use Rattle.gen_types.specs.Spelled.{Spells}
 use Rattle.gen_audit.specs.Bundle.{Bundle}
 use Rattle.gen_audit.specs.Headline.{Headline}
 use Rattle.gen_audit.specs.Supported.{IsSupported}
@@ -12,9 +11,8 @@ use Rattle.gen_convict.specs.AcrossLaws.{AreConvictedAcross, AreEvidenceAcross, 
 use Rattle.gen_convict.specs.Convictions.{AreConvictions, ConvictsWhereHeld}
 use Rattle.gen_convict.specs.Evidence.{Accusation}
 use Rattle.gen_report.specs.VerdictText.{verdict_text}
-use Rattle.gen_campaign.specs.Campaign.{CampaignBundle, IsCampaign}
+use Rattle.gen_campaign.specs.Campaign.{CampaignBundle}
 use Rattle.gen_campaign.specs.CampaignReading.{whole_campaign}
-use Rattle.gen_campaign.specs.CampaignSpelling.{campaign_spelling}
 use Rattle.gen_campaign.specs.Judged.{AreJudged, shown_bundles}
 use Rattle.gen_campaign.specs.CampaignVerdictText.{campaign_text, several_text}
 use Rattle.gen_json.specs.CampaignData.{campaign_data, several_data}
@@ -79,12 +77,6 @@ AuditsShown origin true [] text negative = ⊥
 AuditsShown origin true (b ∷ []) text negative = Audits origin b text negative
 AuditsShown origin true (b ∷ c ∷ others) text negative = ⊥
 AuditsShown origin false bundles text negative = AuditsRuns origin bundles text negative
-
--- The text is that of the judgement on the bundle or campaign that the input spells.
-pub record IsAudited (input text : List ℕ) (negative : Bool) : Type 0 where
-  pub shown : CampaignBundle
-  pub spelled : Spells IsCampaign campaign_spelling input shown
-  pub audits : AuditsShown None shown.alone shown.bundles text negative
 
 -- the first fault of an input that spells no campaign and no bundle; or memory was refused
 abbrev pub IsAuditFault : List ℕ → JobFault → Type 0

@@ -1,15 +1,14 @@
 -- What the job evidence makes of its input.
 use Rattle.std.specs.Prelude.{ℕ, ◌≡◌, Bool, true, false, List, codes, Err}
-use Rattle.gen_types.specs.Spelled.{Spells}
 use Rattle.gen_convict.specs.Contradictions.{IsContradiction}
-use Rattle.gen_convict.specs.EvidenceReading.{IsWhole, whole_evidence}
-use Rattle.gen_convict.specs.EvidenceSpelling.{HeaderAndEvidence, whole_spelling}
+use Rattle.gen_convict.specs.EvidenceReading.{whole_evidence}
+use Rattle.gen_convict.specs.EvidenceSpelling.{HeaderAndEvidence}
 use Rattle.gen_json.specs.EvidenceData.{evidence_data}
 use Rattle.gen_json.specs.Line.{json_line}
 use Rattle.gen_jobs.specs.declared.ends.JobFault.{JobFault}
 use Rattle.gen_jobs.specs.declared.ends.JobFault.TheVariants as faults
-use Rattle.gen_jobs.specs.declared.forms.Form.{Form}
-use Rattle.gen_jobs.specs.declared.forms.Form.TheVariants.{Text, Json}
+use Rattle.gen_asked.specs.declared.forms.Form.{Form}
+use Rattle.gen_asked.specs.declared.forms.Form.TheVariants.{Text, Json}
 
 -- the claim of the evidence is a contradiction of the accused
 abbrev pub Holds : HeaderAndEvidence → Type 0
@@ -29,12 +28,6 @@ evidence_text Json x holds = json_line (evidence_data x.header x.evidence holds)
 abbrev pub Tells : Form → HeaderAndEvidence → List ℕ → Bool → Type 0
 Tells form x text false = Holds x × (text ≡ evidence_text form x true)
 Tells form x text true = (Holds x → ⊥) × (text ≡ evidence_text form x false)
-
--- The text says whether the evidence that the input spells holds.
-pub record IsChecked (input text : List ℕ) (negative : Bool) : Type 0 where
-  pub read : HeaderAndEvidence
-  pub spelled : Spells IsWhole whole_spelling input read
-  pub tells : Tells Text read text negative
 
 -- the first fault of an input that spells no evidence; or memory was refused
 abbrev pub IsEvidenceFault : List ℕ → JobFault → Type 0

@@ -13,8 +13,8 @@ use Rattle.gen_json.specs.DecisionData.{decisions_data}
 use Rattle.gen_json.specs.Line.{json_line}
 use Rattle.gen_jobs.specs.declared.ends.JobFault.{JobFault}
 use Rattle.gen_jobs.specs.declared.ends.JobFault.TheVariants as faults
-use Rattle.gen_jobs.specs.declared.forms.Form.{Form}
-use Rattle.gen_jobs.specs.declared.forms.Form.TheVariants.{Text, Json}
+use Rattle.gen_asked.specs.declared.forms.Form.{Form}
+use Rattle.gen_asked.specs.declared.forms.Form.TheVariants.{Text, Json}
 
 -- The scenario whose run decides. For a text without a seed it is the one whose seed is 32 zero bytes. Any
 -- other seed gives the same decisions.
@@ -43,9 +43,6 @@ pub record IsDecidedIn (form : Form) (input text : List ℕ) (negative : Bool) :
   pub spelled : SpellsScenario input told
   pub text_is : text ≡ told_text form told
   pub positive : negative ≡ false
-
-abbrev pub IsDecided : List ℕ → List ℕ → Bool → Type 0
-IsDecided = IsDecidedIn Text
 
 -- the first fault of an input that spells no scenario; or memory was refused
 abbrev pub IsDecideFault : List ℕ → JobFault → Type 0

@@ -1,12 +1,9 @@
 -- What the job draw makes of its input.
 use Rattle.std.specs.Prelude.{◌≡◌, ℕ, Bool, true, false, List, [], ◌∷◌, map}
-use Rattle.gen_types.specs.Spelled.{Spells}
 use Rattle.gen_audit.specs.Bundle.{Bundle}
 use Rattle.gen_audit.specs.declared.verdicts.Judgement.{Judgement}
 use Rattle.gen_convict.specs.AcrossLaws.{AreConvictedAcross, ConvictsAcrossWhereHeld}
 use Rattle.gen_convict.specs.Evidence.{Accusation, told_of}
-use Rattle.gen_campaign.specs.Campaign.{CampaignBundle, IsCampaign}
-use Rattle.gen_campaign.specs.CampaignSpelling.{campaign_spelling}
 use Rattle.gen_campaign.specs.Judged.{AreJudged, IsJudged, shown_bundles}
 use Rattle.gen_draw.specs.Picture.{picture}
 use Rattle.gen_draw.specs.Several.{several_picture}
@@ -43,11 +40,3 @@ DrawsForm true [] text = ⊥
 DrawsForm true (b ∷ []) text = Draws b text
 DrawsForm true (b ∷ c ∷ others) text = ⊥
 DrawsForm false bundles text = DrawsRuns bundles text
-
--- The text is the picture of the bundle or campaign that the input spells. It never says no: there is a
--- picture of each verdict.
-pub record IsDrawn (input text : List ℕ) (negative : Bool) : Type 0 where
-  pub shown : CampaignBundle
-  pub spelled : Spells IsCampaign campaign_spelling input shown
-  pub draws : DrawsForm shown.alone shown.bundles text
-  pub positive : negative ≡ false

@@ -6,8 +6,9 @@ use Rattle.gen_script.specs.declared.fault.ScriptFault.TheVariants as scripts
 use Rattle.gen_report.specs.declared.fault.LineFault.{LineFault}
 use Rattle.gen_report.specs.declared.fault.LineFault.TheVariants as lines
 use Rattle.gen_report.specs.declared.fault.ScenarioFault.{ScenarioFault}
-use Rattle.gen_show.specs.FaultText.{header_fault_name, log_fault_name}
-use Rattle.gen_show.specs.FileFaultText.{campaign_fault_name, evidence_fault_name}
+use Rattle.gen_file.specs.FaultText.{header_fault_name, log_fault_name}
+use Rattle.gen_file.specs.FileFaultText.{evidence_fault_name}
+use Rattle.gen_campaign.specs.FaultText.{campaign_fault_name}
 use Rattle.gen_jobs.specs.declared.ends.JobFault.{JobFault}
 use Rattle.gen_jobs.specs.declared.ends.JobFault.TheVariants as faults
 

@@ -10,8 +10,8 @@ use Rattle.gen_campaign.specs.declared.campaign_fault.CampaignFault.TheVariants.
 use Rattle.gen_prepare.specs.Walking.{AreWalksIfAny}
 use Rattle.gen_jobs.specs.declared.ends.JobFault.{JobFault}
 use Rattle.gen_jobs.specs.declared.ends.JobFault.TheVariants as faults
-use Rattle.gen_jobs.specs.declared.faulty.Faulty.{Faulty}
-use Rattle.gen_jobs.specs.declared.faulty.Faulty.TheVariants.{Listed, These}
+use Rattle.gen_asked.specs.declared.faulty.Faulty.{Faulty}
+use Rattle.gen_asked.specs.declared.faulty.Faulty.TheVariants.{Listed, These}
 
 -- The second bundle has the header and the exhibits of the first. These generals are held for faulty, and the
 -- walks are those between the others.

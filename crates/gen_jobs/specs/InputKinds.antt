@@ -3,7 +3,7 @@ use Rattle.std.specs.Prelude.{ℕ, ◌||◌, Bool, List, codes, take, Option, So
 use Rattle.std.specs.Str.{bytes_eq}
 use Rattle.serde_json.specs.Data.{Data}
 use Rattle.gen_json.specs.FailureData.{failure_data}
-use Rattle.gen_show.specs.Showing.{begins_header}
+use Rattle.gen_file.specs.Kinds.{begins_header}
 use Rattle.gen_jobs.specs.Ends.{fault_status}
 use Rattle.gen_jobs.specs.FaultLines.{job_fault_line}
 use Rattle.gen_jobs.specs.declared.ends.JobFault.{JobFault}

@@ -10,8 +10,8 @@ use Rattle.gen_jobs.specs.Run.{IsRunAnswer, IsRunFault}
 use Rattle.gen_jobs.specs.Showing.{IsShownFault, IsShownIn}
 use Rattle.gen_jobs.specs.Telling.{IsMemory, IsTold}
 use Rattle.gen_jobs.specs.declared.ends.JobFault.{JobFault}
-use Rattle.gen_jobs.specs.declared.jobs.Job.{Job}
-use Rattle.gen_jobs.specs.declared.jobs.Job.TheVariants as jobs
+use Rattle.gen_asked.specs.declared.jobs.Job.{Job}
+use Rattle.gen_asked.specs.declared.jobs.Job.TheVariants as jobs
 
 -- The text is an answer of the job to the input, which has this name if it has one, and says no if `negative`
 -- is true. Verdicts in JSON alone tell the name.

@@ -2,7 +2,6 @@ pub mod Accepted
 pub mod AcceptedCampaigns
 pub mod Accusing
 pub mod Answering
-pub mod AskedRuns
 pub mod Asking
 pub mod Audit
 pub mod Campaigning
@@ -12,7 +11,6 @@ pub mod Drawing
 pub mod Ends
 pub mod Failing
 pub mod FaultLines
-pub mod Faulty
 pub mod Holding
 pub mod InputKinds
 pub mod Jobs
@@ -23,7 +21,7 @@ pub mod Origins
 pub mod PlanText
 pub mod Planning
 pub mod Preparing
-pub mod Ranges
 pub mod Run
+pub mod RunIds
 pub mod Showing
 pub mod Telling

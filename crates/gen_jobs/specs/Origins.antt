@@ -1,13 +1,13 @@
 -- Where the answer of a job comes from.
 use Rattle.std.specs.Prelude.{ℕ, List, Option, Some, None}
 use Rattle.gen_json.specs.OriginData.{Origin, origin_of}
-use Rattle.gen_jobs.specs.declared.asked.Asked.{Asked}
-use Rattle.gen_jobs.specs.declared.asked_runs.AskedRuns.{AskedRuns}
-use Rattle.gen_jobs.specs.declared.asked_runs.AskedRuns.TheVariants.{Any, One, Two, Three, Four}
-use Rattle.gen_jobs.specs.declared.faulty.Faulty.{Faulty}
-use Rattle.gen_jobs.specs.declared.faulty.Faulty.TheVariants.{Listed, These}
-use Rattle.gen_jobs.specs.declared.forms.Form.{Form}
-use Rattle.gen_jobs.specs.declared.forms.Form.TheVariants.{Text, Json}
+use Rattle.gen_asked.specs.declared.asked.Asked.{Asked}
+use Rattle.gen_asked.specs.declared.asked_runs.AskedRuns.{AskedRuns}
+use Rattle.gen_asked.specs.declared.asked_runs.AskedRuns.TheVariants.{Any, One, Two, Three, Four}
+use Rattle.gen_asked.specs.declared.faulty.Faulty.{Faulty}
+use Rattle.gen_asked.specs.declared.faulty.Faulty.TheVariants.{Listed, These}
+use Rattle.gen_asked.specs.declared.forms.Form.{Form}
+use Rattle.gen_asked.specs.declared.forms.Form.TheVariants.{Text, Json}
 
 -- the ids of the runs that are asked for, if any are
 abbrev pub ids_asked : AskedRuns → Option (List (List ℕ))

@@ -10,14 +10,15 @@ use Rattle.gen_convict.specs.EvidenceSpelling.{HeaderAndEvidence}
 use Rattle.gen_campaign.specs.Campaign.{CampaignBundle}
 use Rattle.gen_campaign.specs.CampaignReading.{whole_campaign}
 use Rattle.gen_campaign.specs.declared.campaign_fault.CampaignFault.{CampaignFault}
-use Rattle.gen_show.specs.Showing.{file_kind}
-use Rattle.gen_show.specs.declared.kinds.FileKind.{FileKind}
-use Rattle.gen_show.specs.declared.kinds.FileKind.TheVariants.{OfHeader, OfEvidence, OfCampaign}
-use Rattle.gen_jobs.specs.AskedRuns.{AreAsked, run_ids}
+use Rattle.gen_file.specs.Kinds.{file_kind}
+use Rattle.gen_file.specs.declared.kinds.FileKind.{FileKind}
+use Rattle.gen_file.specs.declared.kinds.FileKind.TheVariants.{OfHeader, OfEvidence, OfCampaign}
+use Rattle.gen_asked.specs.AskedRuns.{AreAsked}
+use Rattle.gen_jobs.specs.RunIds.{run_ids}
 use Rattle.gen_jobs.specs.Telling.{TellsFile}
-use Rattle.gen_jobs.specs.declared.forms.Form.{Form}
-use Rattle.gen_jobs.specs.declared.asked_runs.AskedRuns.{AskedRuns}
-use Rattle.gen_jobs.specs.declared.asked_runs.AskedRuns.TheVariants.{Any}
+use Rattle.gen_asked.specs.declared.forms.Form.{Form}
+use Rattle.gen_asked.specs.declared.asked_runs.AskedRuns.{AskedRuns}
+use Rattle.gen_asked.specs.declared.asked_runs.AskedRuns.TheVariants.{Any}
 use Rattle.gen_jobs.specs.declared.ends.JobFault.{JobFault}
 use Rattle.gen_jobs.specs.declared.ends.JobFault.TheVariants as faults
 

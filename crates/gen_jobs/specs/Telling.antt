@@ -1,16 +1,18 @@
 -- What the job that tells makes of its input: what a file is, what a name means, or what the lines of a text
 -- mean.
 use Rattle.std.specs.Prelude.{ℕ, ◌≡◌, Bool, true, false, not, List, [], Option, Some, None}
-use Rattle.gen_show.specs.Showing.{IsTextAs, file_kind, is_whole_as}
+use Rattle.gen_file.specs.Kinds.{file_kind}
+use Rattle.gen_campaign.specs.WholeFile.{is_whole_as}
+use Rattle.gen_show.specs.Showing.{IsTextAs}
 use Rattle.gen_json.specs.ShowingLines.{IsJsonAs}
 use Rattle.gen_show.specs.Table.{words}
 use Rattle.gen_show.specs.Worded.{explained, worded}
 use Rattle.gen_jobs.specs.declared.ends.JobFault.{JobFault}
 use Rattle.gen_jobs.specs.declared.ends.JobFault.TheVariants as faults
-use Rattle.gen_jobs.specs.declared.forms.Form.{Form}
-use Rattle.gen_jobs.specs.declared.forms.Form.TheVariants.{Text, Json}
-use Rattle.gen_jobs.specs.declared.telling.Telling.{Telling}
-use Rattle.gen_jobs.specs.declared.telling.Telling.TheVariants as tellings
+use Rattle.gen_asked.specs.declared.forms.Form.{Form}
+use Rattle.gen_asked.specs.declared.forms.Form.TheVariants.{Text, Json}
+use Rattle.gen_asked.specs.declared.telling.Telling.{Telling}
+use Rattle.gen_asked.specs.declared.telling.Telling.TheVariants as tellings
 
 -- the text says in a form, line by line, what the bytes are
 abbrev pub SaysFile : Form → List ℕ → List ℕ → Type 0

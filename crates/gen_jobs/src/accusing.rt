@@ -9,10 +9,11 @@ ghost use Rattle.gen_jobs.specs.Asking.{IsAccusedOf, IsShowFault};
 ghost use Rattle.gen_jobs.specs.Audit.{ByWorkers};
 ghost use Rattle.gen_jobs.specs.Ends.{IsTaken, KeepsUntilWhole};
 
-use crate::asked_runs::{AskedRuns, check_runs};
 use crate::ends::{JobEnd, JobFault, Output};
 use crate::gates::Open;
+use crate::run_ids::check_runs;
 use crate::transfer::{deliver, read_all};
+use gen_asked::AskedRuns;
 use gen_audit::{Bundle, Judgement, WorkerCount};
 use gen_campaign::{CampaignBundle, CampaignVerdict, audit_campaign, read_taken_campaign};
 use gen_convict::{Claim, Evidence, write_evidence};
@@ -119,7 +120,7 @@ pub(crate) fn evidence_by(
 /// `Campaign` with the first fault of an input that spells neither; else `OtherRun` if the runs are others. `Memory` if
 /// memory is refused; `Thread` if a worker's thread can't be started, so never for one worker.
 #[tactic(auto, using(crate::proofs::AskedFaults::show_faults))]
-pub fn accuse_as_asked<T: Threads + Wait + Sync>(
+pub(crate) fn accuse<T: Threads + Wait + Sync>(
     rt: &T,
     alloc: Global,
     workers: WorkerCount,
@@ -162,10 +163,7 @@ pub fn accuse_engine<T: Threads + Wait + Sync, R: Read, W: Write>(
     ensures late { KeepsUntilWhole (W.contents writer.old) (W.contents writer.new) result }
 {
     match read_all(alloc, reader) {
-        Ok(input) => deliver(
-            writer,
-            accuse_as_asked(rt, alloc, workers, asked, general, input),
-        ),
+        Ok(input) => deliver(writer, accuse(rt, alloc, workers, asked, general, input)),
         Err(fault) => JobEnd::Failed(fault),
     }
 }

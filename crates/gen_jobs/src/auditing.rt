@@ -8,15 +8,14 @@ ghost use Rattle.gen_jobs.specs.Asking.{IsAuditedBy, IsHeldFault};
 ghost use Rattle.gen_jobs.specs.Audit.{AuditsShown, ByWorkers, is_no, judgement_text};
 ghost use Rattle.gen_jobs.specs.Ends.{IsTaken, KeepsUntilWhole};
 
-use crate::asked::Asked;
-use crate::asked_runs::check_runs;
 use crate::counting::{counted, have_few, shared_roots};
 use crate::ends::{JobEnd, JobFault, Output};
-use crate::forms::Form;
 use crate::gates::Open;
 use crate::holding::held_as;
 use crate::origins::origin_in;
+use crate::run_ids::check_runs;
 use crate::transfer::{deliver, read_all};
+use gen_asked::{Asked, Form};
 use gen_audit::{Bundle, Judgement, Verdict, WorkerCount};
 use gen_campaign::{
     CampaignBundle, CampaignVerdict, audit_campaign, print_campaign, read_taken_campaign,
@@ -94,7 +93,7 @@ pub(crate) fn output_by(
 /// `Campaign` with `FaultyRange`, as the fault of the first bundle whose header lacks a general that is asked for.
 /// `Memory` if memory is refused; `Thread` if a worker's thread can't be started, so never for one worker.
 #[tactic(auto, using(crate::proofs::AskedFaults::held_faults))]
-pub fn audit_as_asked<T: Threads + Wait + Sync>(
+pub(crate) fn audit<T: Threads + Wait + Sync>(
     rt: &T,
     alloc: Global,
     workers: WorkerCount,
@@ -150,7 +149,7 @@ pub fn audit_engine<T: Threads + Wait + Sync, R: Read, W: Write>(
     match read_all(alloc, reader) {
         Ok(input) => deliver(
             writer,
-            audit_as_asked(rt, alloc, workers, asked, form, strict, name, input),
+            audit(rt, alloc, workers, asked, form, strict, name, input),
         ),
         Err(fault) => JobEnd::Failed(fault),
     }

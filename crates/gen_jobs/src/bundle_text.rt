@@ -34,7 +34,7 @@ impl Model for BundleText {
 
 impl BundleText {
     /// Returns the text of a bundle. It fails only if memory was refused.
-    pub fn new(alloc: Global, bundle: Bundle) -> Result<BundleText, AllocError>
+    pub(crate) fn new(alloc: Global, bundle: Bundle) -> Result<BundleText, AllocError>
         ensures { IfOk result (λ text. text ≡ bundle_spelling bundle) }
     {
         let front = bundle_front(alloc, &bundle)?;
@@ -46,7 +46,7 @@ impl BundleText {
     /// # Errors
     ///
     /// The error of the write that failed.
-    pub fn write_to<W: Write>(&self, writer: &mut W) -> Result<(), io::Error>
+    pub(crate) fn write_to<W: Write>(&self, writer: &mut W) -> Result<(), io::Error>
         ensures { OnOk result (Appends (W.contents writer.old) (W.contents writer.new) self.now) }
     {
         let _lawful = self.bundle.header();

@@ -1,5 +1,5 @@
 //! The bytes of a campaign, kept in pieces so that its logs need no copy.
-ghost use Rattle.std.specs.Prelude.{◌≡◌, ◌≤◌, ◌++◌, ◌∷◌, [], length, OnOk};
+ghost use Rattle.std.specs.Prelude.{◌≡◌, ◌≤◌, ◌++◌, ◌∷◌, [], length, IfOk, OnOk};
 ghost use Rattle.std.specs.Int.{w32, to_be_bytes};
 ghost use Rattle.std.specs.List.{flat_map};
 ghost use Rattle.std.specs.Io.KnownBytes.{Appends};
@@ -9,6 +9,7 @@ ghost use Rattle.gen_jobs.specs.Answering.{DeliversText};
 use crate::bundle_text::BundleText;
 use crate::ends::{JobEnd, JobFault};
 use gen_campaign::several_front;
+use std::alloc::{AllocError, Global};
 use std::io;
 use std::io::Write;
 use std::marker::Model;
@@ -16,7 +17,7 @@ use std::marker::Model;
 /// The bytes of a campaign of several runs, whole in memory: the five bytes before the bundles, and the text of each. A
 /// contract sees the list of its bytes.
 #[derive(Drop)]
-pub struct CampaignText {
+pub(crate) struct CampaignText {
     front: [u8; 5],
     texts: Vec<BundleText>,
 }
@@ -33,7 +34,7 @@ impl Model for CampaignText {
 impl CampaignText {
     /// Returns the bytes of the campaign whose runs' bundles have these texts, at most 255. The bytes are the mark, the
     /// number of runs, and the texts.
-    pub fn new(texts: Vec<BundleText>) -> CampaignText
+    pub(crate) fn new(texts: Vec<BundleText>) -> CampaignText
         requires { length texts.items ≤ 255 }
         ensures { result ≡ (to_be_bytes w32 campaign_mark ++ length texts.items ∷ [])
             ++ flat_map (λ text. text) texts.items }
@@ -49,7 +50,7 @@ impl CampaignText {
     /// # Errors
     ///
     /// The error of the write that failed.
-    pub fn write_to<W: Write>(&self, writer: &mut W) -> Result<(), io::Error>
+    pub(crate) fn write_to<W: Write>(&self, writer: &mut W) -> Result<(), io::Error>
         ensures { OnOk result (Appends (W.contents writer.old) (W.contents writer.new) self.now) }
     {
         writer.write_all(&self.front)?;
@@ -59,11 +60,26 @@ impl CampaignText {
         }
         Ok(())
     }
+
+    /// Returns the bytes in one piece. It fails only if memory was refused.
+    pub(crate) fn joined(&self, alloc: Global) -> Result<Vec<u8>, AllocError>
+        ensures { IfOk result (λ bytes. bytes.items ≡ self.now) }
+    {
+        let mut bytes = Vec::new(alloc);
+        match self.write_to(&mut bytes) {
+            Ok(()) => Ok(bytes),
+            // Only memory can be refused to what is written into memory.
+            Err(_) => Err(AllocError),
+        }
+    }
 }
 
 /// Writes the campaign that answers the input, or nothing if there is a fault in its place, and returns how the job
 /// ends.
-pub fn deliver_campaign<W: Write>(writer: &mut W, answer: Result<CampaignText, JobFault>) -> JobEnd
+pub(crate) fn deliver_campaign<W: Write>(
+    writer: &mut W,
+    answer: Result<CampaignText, JobFault>,
+) -> JobEnd
     ensures { DeliversText answer (W.contents writer.old) (W.contents writer.new) result }
 {
     match answer {

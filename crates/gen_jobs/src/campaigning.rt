@@ -7,7 +7,7 @@ ghost use Rattle.gen_jobs.specs.Ends.{IsTaken, KeepsUntilWhole};
 
 use crate::bundle_text::BundleText;
 use crate::campaign_text::{CampaignText, deliver_campaign};
-use crate::ends::{JobEnd, JobFault};
+use crate::ends::{JobEnd, JobFault, Output};
 use crate::gates::Open;
 use crate::running::bundle_with_logs;
 use crate::transfer::read_all;
@@ -49,7 +49,7 @@ fn texts_of_runs(
 ///
 /// `Scenario` with the first fault of an input that spells no campaign; `Memory` if memory is refused; `Thread` if a
 /// thread can't be started.
-pub fn campaign<T: Threads + Wait + Sync>(
+fn campaign_in_pieces<T: Threads + Wait + Sync>(
     rt: &T,
     alloc: Global,
     capacity: u8,
@@ -65,6 +65,25 @@ pub fn campaign<T: Threads + Wait + Sync>(
     let (logs, _leaves) = run_campaign(rt, alloc, &campaign, usize::from(capacity), &Open)?;
     let texts = texts_of_runs(alloc, campaign.scenarios(), logs)?;
     Ok(CampaignText::new(texts))
+}
+
+/// Returns what `campaign_in_pieces` returns, in one piece.
+pub(crate) fn campaign<T: Threads + Wait + Sync>(
+    rt: &T,
+    alloc: Global,
+    capacity: u8,
+    input: &[u8],
+) -> Result<Output, JobFault>
+    requires { 0 < capacity }
+    ensures answer { IfOk result (λ o. IsCampaignRun input.now o.text.items o.negative) }
+    ensures fault { IfErr result (IsCampaignFault input.now) }
+{
+    let pieces = campaign_in_pieces(rt, alloc, capacity, input)?;
+    let text = pieces.joined(alloc)?;
+    Ok(Output {
+        text,
+        negative: false,
+    })
 }
 
 /// Reads the text of a campaign to its end, runs its scenarios one after another, and writes the campaign: the bundles
@@ -91,7 +110,7 @@ pub fn campaign_engine<T: Threads + Wait + Sync, R: Read, W: Write>(
     ensures late { KeepsUntilWhole (W.contents writer.old) (W.contents writer.new) result }
 {
     match read_all(alloc, reader) {
-        Ok(input) => deliver_campaign(writer, campaign(rt, alloc, capacity, &input)),
+        Ok(input) => deliver_campaign(writer, campaign_in_pieces(rt, alloc, capacity, &input)),
         Err(fault) => JobEnd::Failed(fault),
     }
 }

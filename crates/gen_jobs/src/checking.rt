@@ -3,15 +3,13 @@ ghost use Rattle.std.specs.Prelude.{◌≡◌, IfOk, IfErr, IfSome};
 ghost use Rattle.gen_convict.specs.Evidence.{told_of};
 ghost use Rattle.gen_convict.specs.EvidenceReading.{IsWhole};
 ghost use Rattle.gen_jobs.specs.Answering.{Answers};
-ghost use Rattle.gen_jobs.specs.Asking.{IsCheckedIn, IsCheckedOf, IsEvidenceFaultOf};
-ghost use Rattle.gen_jobs.specs.Checking.{IsChecked, IsEvidenceFault, Tells};
+ghost use Rattle.gen_jobs.specs.Asking.{IsCheckedIn, IsEvidenceFaultOf};
+ghost use Rattle.gen_jobs.specs.Checking.{Tells};
 ghost use Rattle.gen_jobs.specs.Ends.{IsTaken, KeepsUntilWhole};
-ghost use Rattle.gen_jobs.specs.declared.forms.Form.TheVariants.{Text};
 
-use crate::asked_runs::AskedRuns;
 use crate::ends::{JobEnd, JobFault, Output};
-use crate::forms::Form;
-use crate::transfer::{deliver, read_all};
+use crate::in_place::engine_in_place;
+use gen_asked::{AskedRuns, Form, Job};
 use gen_convict::{Evidence, check_evidence, read_evidence};
 use gen_json::print_evidence_json;
 use gen_net::Header;
@@ -48,19 +46,6 @@ fn output_for(
     })
 }
 
-/// Returns the text that says whether the evidence that the input spells holds. The output says no if it doesn't hold.
-///
-/// # Errors
-///
-/// `Evidence` with the first fault of an input that spells no evidence; `Memory` if memory is refused.
-pub fn evidence(alloc: Global, input: &[u8]) -> Result<Output, JobFault>
-    ensures answer { IfOk result (λ o. IsChecked input.now o.text.items o.negative) }
-    ensures fault { IfErr result (IsEvidenceFault input.now) }
-{
-    let (header, evidence) = read_evidence(alloc, input)?;
-    Ok(output_for(alloc, Form::Text, &header, &evidence)?)
-}
-
 /// Returns in this form what is told of the evidence that the input spells. The output says no if it doesn't hold. It
 /// must be of the run that is asked for: that of its header. For evidence across two runs this is the first of them.
 ///
@@ -69,7 +54,7 @@ pub fn evidence(alloc: Global, input: &[u8]) -> Result<Output, JobFault>
 /// `Evidence` with the first fault of an input that spells no evidence; else `OtherRun` if the run is another. `Memory`
 /// if memory is refused.
 #[tactic(auto, using(crate::proofs::AskedFaults::of_other))]
-pub fn evidence_in(
+pub(crate) fn evidence(
     alloc: Global,
     form: Form,
     asked: AskedRuns,
@@ -85,27 +70,12 @@ pub fn evidence_in(
     Ok(output_for(alloc, form, &header, &evidence)?)
 }
 
-/// Returns what `evidence` returns for the input, which must be of the run that is asked for: that of its header. For
-/// evidence across two runs this is the first of them.
-///
-/// # Errors
-///
-/// `Evidence` with the first fault of an input that spells no evidence; else `OtherRun` if the run is another. `Memory`
-/// if memory is refused.
-pub fn evidence_as_asked(alloc: Global, asked: AskedRuns, input: &[u8]) -> Result<Output, JobFault>
-    ensures answer { IfOk result (λ o. IsCheckedOf asked input.now o.text.items o.negative) }
-    ensures fault { IfErr result (IsEvidenceFaultOf asked input.now) }
-{
-    evidence_in(alloc, Form::Text, asked, input)
-}
-
 /// Reads the bytes of evidence to their end, and writes in this form whether it holds, as text `evidence holds` or
 /// `evidence fails`, and LF. It writes nothing if they spell none, or evidence of another run than the one that is asked
 /// for. The end is negative if the evidence fails.
 ///
 /// A fault of the input is looked for after the whole input was read, and nothing is written before the output is
 /// whole. If a read, a write or memory fails, the job ends with that fault.
-#[tactic(auto, using(crate::proofs::Delivering::output_engine))]
 pub fn evidence_engine<R: Read, W: Write>(
     alloc: Global,
     form: Form,
@@ -122,8 +92,5 @@ pub fn evidence_engine<R: Read, W: Write>(
     // Nothing is written before the output is whole.
     ensures late { KeepsUntilWhole (W.contents writer.old) (W.contents writer.new) result }
 {
-    match read_all(alloc, reader) {
-        Ok(input) => deliver(writer, evidence_in(alloc, form, asked, &input)),
-        Err(fault) => JobEnd::Failed(fault),
-    }
+    engine_in_place(alloc, Job::Evidence { asked, form }, None, reader, writer)
 }

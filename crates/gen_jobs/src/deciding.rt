@@ -1,12 +1,12 @@
 //! The job `decide`: writes what each general decides.
 ghost use Rattle.std.specs.Prelude.{◌≡◌, IfOk, IfErr, IfSome};
 ghost use Rattle.gen_jobs.specs.Answering.{Answers};
-ghost use Rattle.gen_jobs.specs.Decide.{IsDecided, IsDecidedIn, IsDecideFault, told_text};
+ghost use Rattle.gen_jobs.specs.Decide.{IsDecidedIn, IsDecideFault, told_text};
 ghost use Rattle.gen_jobs.specs.Ends.{IsTaken, KeepsUntilWhole};
 
 use crate::ends::{JobEnd, JobFault, Output};
-use crate::forms::Form;
-use crate::transfer::{deliver, read_all};
+use crate::in_place::engine_in_place;
+use gen_asked::{Form, Job};
 use gen_json::print_decisions_json;
 use gen_report::{ScenarioText, print_decisions, read_scenario};
 use gen_scenario::Scenario;
@@ -53,7 +53,7 @@ fn told_in(alloc: Global, form: Form, told: ScenarioText) -> Result<Vec<u8>, All
 /// # Errors
 ///
 /// `Scenario` with the first fault of an input that spells no scenario; `Memory` if memory is refused.
-pub fn decide_in(alloc: Global, form: Form, input: &[u8]) -> Result<Output, JobFault>
+pub(crate) fn decide(alloc: Global, form: Form, input: &[u8]) -> Result<Output, JobFault>
     ensures answer { IfOk result (λ o. IsDecidedIn form input.now o.text.items o.negative) }
     ensures fault { IfErr result (IsDecideFault input.now) }
 {
@@ -65,25 +65,11 @@ pub fn decide_in(alloc: Global, form: Form, input: &[u8]) -> Result<Output, JobF
     })
 }
 
-/// Returns the text of what each general without a script decides in the run of the scenario that the input spells. The
-/// output never says no.
-///
-/// # Errors
-///
-/// `Scenario` with the first fault of an input that spells no scenario; `Memory` if memory is refused.
-pub fn decide(alloc: Global, input: &[u8]) -> Result<Output, JobFault>
-    ensures answer { IfOk result (λ o. IsDecided input.now o.text.items o.negative) }
-    ensures fault { IfErr result (IsDecideFault input.now) }
-{
-    decide_in(alloc, Form::Text, input)
-}
-
 /// Reads a scenario text to its end, and writes in this form what each general without a script decides; nothing if the
 /// text has a fault.
 ///
 /// A fault of the input is looked for after the whole input was read, and nothing is written before the output is
 /// whole. If a read, a write or memory fails, the job ends with that fault.
-#[tactic(auto, using(crate::proofs::Delivering::output_engine))]
 pub fn decide_engine<R: Read, W: Write>(
     alloc: Global,
     form: Form,
@@ -99,8 +85,5 @@ pub fn decide_engine<R: Read, W: Write>(
     // Nothing is written before the output is whole.
     ensures late { KeepsUntilWhole (W.contents writer.old) (W.contents writer.new) result }
 {
-    match read_all(alloc, reader) {
-        Ok(input) => deliver(writer, decide_in(alloc, form, &input)),
-        Err(fault) => JobEnd::Failed(fault),
-    }
+    engine_in_place(alloc, Job::Decide { form }, None, reader, writer)
 }

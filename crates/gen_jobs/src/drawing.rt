@@ -10,12 +10,12 @@ ghost use Rattle.gen_jobs.specs.Audit.{ByWorkers};
 ghost use Rattle.gen_jobs.specs.Drawing.{DrawsForm, first_picture};
 ghost use Rattle.gen_jobs.specs.Ends.{IsTaken, KeepsUntilWhole};
 
-use crate::asked::Asked;
-use crate::asked_runs::check_runs;
 use crate::ends::{JobEnd, JobFault, Output};
 use crate::gates::Open;
 use crate::holding::held_as;
+use crate::run_ids::check_runs;
 use crate::transfer::{deliver, read_all};
+use gen_asked::Asked;
 use gen_audit::WorkerCount;
 use gen_campaign::{CampaignBundle, CampaignVerdict, audit_campaign, read_taken_campaign};
 use gen_draw::{draw as draw_bundle, draw_campaign};
@@ -75,15 +75,15 @@ pub(crate) fn picture_by(
 
 /// Returns the picture of the bundle that the input spells and of the judgement on it, as an SVG text. For a campaign it
 /// is that of its runs, one below the other. The runs must be the ones that are asked for. If generals are asked for,
-/// these are held for faulty in place of the ones that it lists, as for `audit_as_asked`. The output never says no,
+/// these are held for faulty in place of the ones that it lists, as for `audit`. The output never says no,
 /// whatever the verdict is, and it does not depend on the number of workers. The input is taken, and its bytes are not
 /// copied unless generals are asked for.
 ///
 /// # Errors
 ///
-/// Those of `audit_as_asked`.
+/// Those of `audit`.
 #[tactic(auto, using(crate::proofs::AskedFaults::held_faults))]
-pub fn draw_as_asked<T: Threads + Wait + Sync>(
+pub(crate) fn draw<T: Threads + Wait + Sync>(
     rt: &T,
     alloc: Global,
     workers: WorkerCount,
@@ -125,7 +125,7 @@ pub fn draw_engine<T: Threads + Wait + Sync, R: Read, W: Write>(
     ensures late { KeepsUntilWhole (W.contents writer.old) (W.contents writer.new) result }
 {
     match read_all(alloc, reader) {
-        Ok(input) => deliver(writer, draw_as_asked(rt, alloc, workers, asked, input)),
+        Ok(input) => deliver(writer, draw(rt, alloc, workers, asked, input)),
         Err(fault) => JobEnd::Failed(fault),
     }
 }

@@ -3,9 +3,10 @@ ghost use Rattle.std.specs.Prelude.{◌≡◌, ◌++◌, IfOk, OnOk, string_byte
 ghost use Rattle.gen_jobs.specs.FaultLines.{equal_roots_fault_line, job_fault_line, line_fault_name};
 
 use crate::ends::JobFault;
+use gen_campaign::push_campaign_fault;
+use gen_file::{push_evidence_fault, push_header_fault, push_log_fault};
 use gen_report::LineFault;
 use gen_script::ScriptFault;
-use gen_show::{push_campaign_fault, push_evidence_fault, push_header_fault, push_log_fault};
 use std::alloc::{AllocError, Global};
 
 /// Appends the name of the fault of a line of a text, and, if that is a header's fault or a script's, the name of this

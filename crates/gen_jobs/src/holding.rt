@@ -4,10 +4,10 @@ ghost use Rattle.std.specs.List.{AllZip};
 ghost use Rattle.gen_campaign.specs.CampaignSpelling.{campaign_spelling};
 ghost use Rattle.gen_jobs.specs.Failing.{campaign_failure};
 ghost use Rattle.gen_jobs.specs.Holding.{IsHeld, IsHeldAs, IsHoldFault, lack_fault, lacks};
-ghost use Rattle.gen_jobs.specs.declared.faulty.Faulty.TheVariants.{These};
+ghost use Rattle.gen_asked.specs.declared.faulty.Faulty.TheVariants.{These};
 
 use crate::ends::JobFault;
-use crate::faulty::Faulty;
+use gen_asked::Faulty;
 use gen_audit::{Bundle, BundleFault};
 use gen_campaign::{
     CampaignBundle, CampaignFault, put_bundles, read_taken_campaign, several_front,

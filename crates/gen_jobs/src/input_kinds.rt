@@ -1,7 +1,8 @@
 //! The kind of an input, by its first bytes.
 ghost use Rattle.std.specs.Prelude.{◌≡◌, option_map};
-ghost use Rattle.gen_show.specs.Showing.{begins_header};
 ghost use Rattle.gen_jobs.specs.InputKinds.{begins_text, begins_with, kind_command, kind_of, kind_words, text_kind};
+
+use gen_file::begins_header;
 
 /// The kind of an input, as its first bytes say it. The rest may be anything.
 #[derive(Clone, Copy, Debug, PartialEq, Eq)]
@@ -34,16 +35,6 @@ fn begins_text(word: &[u8], bytes: &[u8]) -> bool
     ensures { result ≡ begins_text word.now bytes.now }
 {
     &bytes[..bytes.len().min(9)] == word
-}
-
-/// Returns whether the first byte is that of a header.
-fn begins_header(bytes: &[u8]) -> bool
-    ensures { result ≡ begins_header bytes.now }
-{
-    match bytes {
-        [first, ..] => *first == 1 || *first == 2,
-        [] => false,
-    }
 }
 
 /// Returns the kind of a text, and None if it is neither that of a scenario nor that of a campaign.

@@ -37,7 +37,7 @@ pub fn join_in_pieces(
 ///
 /// `Evidence` with the first fault of an input that spells no evidence, else `Log` with that of one that spells no log of
 /// its run. `Memory` if memory is refused.
-pub fn answer(alloc: Global, evidence: &[u8], log: &[u8]) -> Result<Output, JobFault>
+pub fn answer_evidence(alloc: Global, evidence: &[u8], log: &[u8]) -> Result<Output, JobFault>
     ensures answer { IfOk result (λ o. IsAnswered evidence.now log.now o.text.items o.negative) }
     ensures fault { IfErr result (IsReplyFault evidence.now log.now) }
 {

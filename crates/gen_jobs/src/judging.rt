@@ -8,11 +8,11 @@ ghost use Rattle.gen_jobs.specs.Run.{IsRunFault};
 use crate::auditing::judgement_output;
 use crate::counting::{counted, has_few};
 use crate::ends::{JobEnd, JobFault, Output};
-use crate::forms::Form;
 use crate::gates::Open;
 use crate::origins::{nothing_asked, origin_in};
 use crate::running::seeded_scenario;
 use crate::transfer::{deliver, read_all};
+use gen_asked::Form;
 use gen_audit::WorkerCount;
 use gen_judge::run_and_audit_bundle;
 use gen_plan::equal_roots;
@@ -24,8 +24,8 @@ use std::thread::Threads;
 
 /// Returns in this form the judgement on the run of the scenario that the input spells, and whether it counts as a no.
 /// What says no does. If it is asked strictly, so does a yes that says `explained`, and a yes if two generals have the
-/// same root: a line for each such pair then ends an answer that is lines. It is what `audit_as_asked` makes of what
-/// `run_in_pieces` makes of the input. But each general's logs are read and verified while other generals may still run,
+/// same root: a line for each such pair then ends an answer that is lines. It is what `audit` makes of what
+/// `run` makes of the input. But each general's logs are read and verified while other generals may still run,
 /// and no bundle is written. As JSON it tells the input's name, if it has one. The trees of keys are made by threads. Each
 /// general and each worker runs in a thread of its own; the edges hold `capacity` frames each, at least one.
 ///
@@ -33,7 +33,7 @@ use std::thread::Threads;
 ///
 /// `Scenario` with the first fault of an input that spells no scenario. `Scenario` with `P6`, at the line after the
 /// order's, for a scenario without a seed. `Memory` if memory is refused; `Thread` if a thread can't be started.
-pub fn judge_as_asked<T: Threads + Wait + Sync>(
+pub(crate) fn judge<T: Threads + Wait + Sync>(
     rt: &T,
     alloc: Global,
     capacity: u8,
@@ -96,7 +96,7 @@ pub fn judge_engine<T: Threads + Wait + Sync, R: Read, W: Write>(
     match read_all(alloc, reader) {
         Ok(input) => deliver(
             writer,
-            judge_as_asked(rt, alloc, capacity, workers, form, strict, name, &input),
+            judge(rt, alloc, capacity, workers, form, strict, name, &input),
         ),
         Err(fault) => JobEnd::Failed(fault),
     }

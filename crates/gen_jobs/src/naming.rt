@@ -1,6 +1,6 @@
 //! Names the runs that an input is of.
 ghost use Rattle.std.specs.Prelude.{◌≡◌, IfOk, option_map};
-ghost use Rattle.gen_show.specs.Showing.{file_kind};
+ghost use Rattle.gen_file.specs.Kinds.{file_kind};
 ghost use Rattle.gen_jobs.specs.Naming.{ids_text};
 ghost use Rattle.gen_jobs.specs.Showing.{runs_as};
 

@@ -2,10 +2,7 @@
 ghost use Rattle.std.specs.Prelude.{◌≡◌, IfOk, option_map};
 ghost use Rattle.gen_jobs.specs.Origins.{ids_asked, list_asked, nothing_asked, origin_in};
 
-use crate::asked::Asked;
-use crate::asked_runs::AskedRuns;
-use crate::faulty::Faulty;
-use crate::forms::Form;
+use gen_asked::{Asked, AskedRuns, Faulty, Form};
 use gen_json::Origin;
 use gen_types::GeneralSet;
 use std::alloc::{AllocError, Global};

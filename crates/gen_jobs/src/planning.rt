@@ -1,19 +1,16 @@
 //! The job `plan`: says whether the network of a header withstands the faulty generals that its run is planned for.
-ghost use Rattle.std.specs.Prelude.{◌≡◌, ◌≤◌, IfErr, IfOk, IfSome, Ok, Err};
+ghost use Rattle.std.specs.Prelude.{◌≡◌, ◌≤◌, IfErr, IfOk, Ok, Err};
 ghost use Rattle.gen_types.specs.Spelled.{counted};
 ghost use Rattle.gen_net.specs.HeaderReading.{header_at};
 ghost use Rattle.gen_net.specs.Version.{greatest_slot, slot_in};
 ghost use Rattle.gen_prepare.specs.HeaderTextReading.{header_given};
 ghost use Rattle.gen_campaign.specs.CampaignReading.{whole_campaign};
-ghost use Rattle.gen_jobs.specs.Answering.{Answers};
-ghost use Rattle.gen_jobs.specs.Ends.{IsTaken, KeepsUntilWhole};
 ghost use Rattle.gen_jobs.specs.InputKinds.{kind_of};
 ghost use Rattle.gen_jobs.specs.Planning.{IsPlan, IsPlanFault, IsPlanFrom, IsPlanOf, IsShownFault, IsTextFault, alone_header, fails, first_header, shown_header, source_of};
 
-use crate::ends::{JobEnd, JobFault, Output};
+use crate::ends::{JobFault, Output};
 use crate::input_kinds::{InputKind, input_kind};
 use crate::plan_lines::plan_text;
-use crate::transfer::{deliver, read_all};
 use gen_audit::BundleFault;
 use gen_campaign::{CampaignFault, read_campaign};
 use gen_net::{Header, Version, read_header};
@@ -21,7 +18,6 @@ use gen_plan::{PlanResult, plan_of, sizes_of};
 use gen_prepare::read_header_text;
 use gen_types::ReadError;
 use std::alloc::{AllocError, Global};
-use std::io::{Read, Write};
 
 /// As what an input is read whose header is planned.
 #[derive(Clone, Copy, Debug, PartialEq, Eq)]
@@ -127,7 +123,7 @@ fn plan_given(alloc: Global, version: Version, input: &[u8]) -> Result<Output, J
 /// `Campaign` with the fault of a bundle, a campaign or a header alone: the fault of a header alone is that of a bundle's
 /// header, and of bytes left over that of a bundle. `Scenario` or `EqualRoots` with that of a text; `Memory` if memory is
 /// refused.
-pub fn plan(alloc: Global, version: Version, input: &[u8]) -> Result<Output, JobFault>
+pub(crate) fn plan(alloc: Global, version: Version, input: &[u8]) -> Result<Output, JobFault>
     requires { slot_in version ≤ greatest_slot }
     ensures answer { IfOk result (λ o. IsPlan version input.now o.text.items o.negative) }
     ensures fault { IfErr result (IsPlanFault version input.now) }
@@ -136,32 +132,5 @@ pub fn plan(alloc: Global, version: Version, input: &[u8]) -> Result<Output, Job
         PlanSource::OfShown => plan_shown(alloc, input),
         PlanSource::OfHeader => plan_header(alloc, input),
         PlanSource::OfText => plan_given(alloc, version, input),
-    }
-}
-
-/// Reads an input to its end, and writes the text on the plan of its header.
-///
-/// A fault of the input is looked for after the whole input was read, and nothing is written before the output is whole.
-/// If a read, a write or memory fails, the job ends with that fault.
-#[tactic(auto, using(crate::proofs::Delivering::output_engine))]
-pub fn plan_engine<R: Read, W: Write>(
-    alloc: Global,
-    version: Version,
-    reader: &mut R,
-    writer: &mut W,
-) -> JobEnd
-    requires { slot_in version ≤ greatest_slot }
-    // What is written is the plan of the header of what was read.
-    ensures answers { IfSome (R.remaining reader.old) (λ input.
-        Answers (IsPlan version input) (IsPlanFault version input)
-        (W.contents writer.old) (W.contents writer.new) result) }
-    // What was read is within the limit.
-    ensures taken { IfSome (R.remaining reader.old) (λ input. IsTaken input result) }
-    // Nothing is written before the output is whole.
-    ensures late { KeepsUntilWhole (W.contents writer.old) (W.contents writer.new) result }
-{
-    match read_all(alloc, reader) {
-        Ok(input) => deliver(writer, plan(alloc, version, &input)),
-        Err(fault) => JobEnd::Failed(fault),
     }
 }

@@ -9,10 +9,10 @@ ghost use Rattle.gen_jobs.specs.Run.{IsOfRun, IsRunAnswer, IsRunFault};
 ghost use Rattle.gen_scenario.specs.Rows.{logs_of_all};
 
 use crate::bundle_text::{BundleText, deliver_bundle};
-use crate::ends::{JobEnd, JobFault};
+use crate::ends::{JobEnd, JobFault, Output};
 use crate::gates::Open;
 use crate::transfer::read_all;
-use gen_audit::Bundle;
+use gen_audit::{Bundle, write_bundle};
 use gen_local::exhibits_of_logs;
 use gen_log::SealedLog;
 use gen_prepare::walks_between;
@@ -85,16 +85,35 @@ fn bundle_of<T: Threads + Wait + Sync>(
     Ok(bundle_with_logs(alloc, &scenario, logs)?)
 }
 
-/// Returns the bytes of the bundle of the run of the scenario that the input spells, kept in pieces so that its logs need
-/// no copy. The answer never says no. The trees of keys are made by threads. Each general runs in a thread of its own;
-/// the edges hold `capacity` frames each, at least one. The generals that have scripts are held for faulty, and all logs
-/// are shown. The walks are the best ones between the other generals, or none if two of them have no short one.
+/// Returns the bytes of the bundle of the run of the scenario that the input spells. The output never says no. The trees
+/// of keys are made by threads. Each general runs in a thread of its own; the edges hold `capacity` frames each, at least
+/// one. The generals that have scripts are held for faulty, and all logs are shown. The walks are the best ones between
+/// the other generals, or none if two of them have no short one.
 ///
 /// # Errors
 ///
 /// `Scenario` with the first fault of an input that spells no scenario. `Scenario` with `P6`, at the line after the
 /// order's, for a scenario without a seed. `Memory` if memory is refused; `Thread` if a thread can't be started.
-pub fn run_in_pieces<T: Threads + Wait + Sync>(
+pub(crate) fn run<T: Threads + Wait + Sync>(
+    rt: &T,
+    alloc: Global,
+    capacity: u8,
+    input: &[u8],
+) -> Result<Output, JobFault>
+    requires { 0 < capacity }
+    ensures answer { IfOk result (λ o. IsRunAnswer input.now o.text.items o.negative) }
+    ensures fault { IfErr result (IsRunFault input.now) }
+{
+    let bundle = bundle_of(rt, alloc, capacity, input)?;
+    let text = write_bundle(alloc, &bundle)?;
+    Ok(Output {
+        text,
+        negative: false,
+    })
+}
+
+/// Returns what `run` returns, kept in pieces so that the logs need no copy.
+fn run_in_pieces<T: Threads + Wait + Sync>(
     rt: &T,
     alloc: Global,
     capacity: u8,

@@ -1,23 +1,19 @@
 //! The job `show`: writes what a file is, of the runs that are asked for.
-ghost use Rattle.std.specs.Prelude.{◌≡◌, IfErr, IfOk, IfSome, option_map};
+ghost use Rattle.std.specs.Prelude.{◌≡◌, IfErr, IfOk, option_map};
 ghost use Rattle.std.specs.Bool.{Decides};
-ghost use Rattle.gen_show.specs.Showing.{file_kind};
-ghost use Rattle.gen_jobs.specs.Answering.{Answers};
-ghost use Rattle.gen_jobs.specs.Ends.{IsTaken, KeepsUntilWhole};
+ghost use Rattle.gen_file.specs.Kinds.{file_kind};
 ghost use Rattle.gen_jobs.specs.Showing.{AreAskedOf, IsShownFault, IsShownIn, runs_as};
 
-use crate::asked_runs::{AskedRuns, run_ids};
-use crate::ends::{JobEnd, JobFault, Output};
-use crate::forms::Form;
+use crate::ends::{JobFault, Output};
+use crate::run_ids::run_ids;
 use crate::telling::tell_file;
-use crate::transfer::{deliver, read_all};
+use gen_asked::{AskedRuns, Form};
 use gen_campaign::read_campaign;
 use gen_convict::read_evidence;
+use gen_file::{FileKind, file_kind};
 use gen_net::read_header;
-use gen_show::{FileKind, file_kind};
 use gen_types::ReadError;
 use std::alloc::{AllocError, Global};
-use std::io::{Read, Write};
 
 /// Returns the runs of a file in their order: that of a header or of evidence, those of a bundle or a campaign. None if
 /// the file is not whole.
@@ -69,7 +65,7 @@ fn are_asked(asked: AskedRuns, runs: Option<Vec<[u8; 32]>>) -> bool
 /// # Errors
 ///
 /// `OtherRun` if runs are asked for, and the file is not whole or of other runs; `Memory` if memory is refused.
-pub fn show_in(
+pub(crate) fn show(
     alloc: Global,
     form: Form,
     asked: AskedRuns,
@@ -83,32 +79,5 @@ pub fn show_in(
         Ok(tell_file(alloc, form, input)?)
     } else {
         Err(JobFault::OtherRun)
-    }
-}
-
-/// Reads a file to its end, and writes in this form, line by line, what it is; nothing if runs are asked for, and the
-/// file is not whole or of other runs. The end is negative if the file is not whole.
-///
-/// Nothing is written before the output is whole. If a read, a write or memory fails, the job ends with that fault.
-#[tactic(auto, using(crate::proofs::Delivering::output_engine))]
-pub fn show_engine<R: Read, W: Write>(
-    alloc: Global,
-    form: Form,
-    asked: AskedRuns,
-    reader: &mut R,
-    writer: &mut W,
-) -> JobEnd
-    // What is written says what was read is.
-    ensures answers { IfSome (R.remaining reader.old) (λ input.
-        Answers (IsShownIn form asked input) (IsShownFault asked input)
-        (W.contents writer.old) (W.contents writer.new) result) }
-    // What was read is within the limit.
-    ensures taken { IfSome (R.remaining reader.old) (λ input. IsTaken input result) }
-    // Nothing is written before the output is whole.
-    ensures late { KeepsUntilWhole (W.contents writer.old) (W.contents writer.new) result }
-{
-    match read_all(alloc, reader) {
-        Ok(input) => deliver(writer, show_in(alloc, form, asked, &input)),
-        Err(fault) => JobEnd::Failed(fault),
     }
 }

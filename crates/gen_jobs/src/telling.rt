@@ -1,25 +1,10 @@
 //! The job that tells: what a file is, what a name means, or what the lines of a text mean.
-ghost use Rattle.std.specs.Prelude.{IfErr, IfOk, IfSome};
-ghost use Rattle.gen_jobs.specs.Answering.{Answers};
-ghost use Rattle.gen_jobs.specs.Ends.{IsTaken, KeepsUntilWhole};
+ghost use Rattle.std.specs.Prelude.{IfErr, IfOk};
 ghost use Rattle.gen_jobs.specs.Telling.{IsMemory, IsTold, TellsFile};
 
-use crate::ends::{JobEnd, JobFault, Output};
-use crate::forms::Form;
-use crate::transfer::{deliver, read_all};
+use crate::ends::{JobFault, Output};
+use gen_asked::{Form, Telling};
 use std::alloc::{AllocError, Global};
-use std::io::{Read, Write};
-
-/// What is told of an input.
-#[derive(Clone, Copy, Debug, PartialEq, Eq)]
-pub enum Telling {
-    /// What the file is, line by line: a bundle, a campaign, evidence or a header alone.
-    File,
-    /// What the name means: a fault, a finding, a kind of conviction, a verdict or a status.
-    Name,
-    /// The text, with what each of its lines means behind the line.
-    Text,
-}
 
 /// Returns in this form what a file is, and says no if it is no whole file of its kind.
 pub(crate) fn tell_file(alloc: Global, form: Form, input: &[u8]) -> Result<Output, AllocError>
@@ -42,7 +27,7 @@ pub(crate) fn tell_file(alloc: Global, form: Form, input: &[u8]) -> Result<Outpu
 /// # Errors
 ///
 /// `Memory` if memory is refused. Any input is told.
-pub fn tell(alloc: Global, what: Telling, input: &[u8]) -> Result<Output, JobFault>
+pub(crate) fn tell(alloc: Global, what: Telling, input: &[u8]) -> Result<Output, JobFault>
     ensures answer { IfOk result (λ o. IsTold what input.now o.text.items o.negative) }
     ensures fault { IfErr result IsMemory }
 {
@@ -62,30 +47,5 @@ pub fn tell(alloc: Global, what: Telling, input: &[u8]) -> Result<Output, JobFau
             text: gen_show::with_words(alloc, input)?,
             negative: false,
         }),
-    }
-}
-
-/// Reads an input to its end, and writes what is told of it. The end is negative if the output says no.
-///
-/// Nothing is written before the output is whole. If a read, a write or memory fails, the job ends with that fault.
-#[tactic(auto, using(crate::proofs::Delivering::output_engine))]
-pub fn tell_engine<R: Read, W: Write>(
-    alloc: Global,
-    what: Telling,
-    reader: &mut R,
-    writer: &mut W,
-) -> JobEnd
-    // What is written is told of what was read.
-    ensures answers { IfSome (R.remaining reader.old) (λ input.
-        Answers (IsTold what input) IsMemory
-        (W.contents writer.old) (W.contents writer.new) result) }
-    // What was read is within the limit.
-    ensures taken { IfSome (R.remaining reader.old) (λ input. IsTaken input result) }
-    // Nothing is written before the output is whole.
-    ensures late { KeepsUntilWhole (W.contents writer.old) (W.contents writer.new) result }
-{
-    match read_all(alloc, reader) {
-        Ok(input) => deliver(writer, tell(alloc, what, &input)),
-        Err(fault) => JobEnd::Failed(fault),
     }
 }

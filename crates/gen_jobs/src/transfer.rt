@@ -1,7 +1,7 @@
 //! Reads the whole input, and writes the whole output.
 ghost use Rattle.std.specs.Prelude.{◌≡◌, ◌≤◌, IfErr, IfOk, IfSome, length};
 ghost use Rattle.gen_jobs.specs.Answering.{Delivers};
-ghost use Rattle.gen_jobs.specs.Ends.{IsReadFault, IsWritten};
+ghost use Rattle.gen_jobs.specs.Ends.{IsReadFault};
 
 use crate::ends::{JobEnd, JobFault, Output};
 use std::alloc::Global;
@@ -29,28 +29,21 @@ pub fn read_all<R: Read>(alloc: Global, reader: &mut R) -> Result<Vec<u8>, JobFa
     }
 }
 
-/// Writes the whole output, and returns how the job ends: Done, Negative if the output says no, or with the fault
-/// Write.
-pub fn write_output<W: Write>(writer: &mut W, output: &Output) -> JobEnd
-    ensures { IsWritten output.now.text.items output.now.negative
-        (W.contents writer.old) (W.contents writer.new) result }
-{
-    if writer.write_all(&output.text).is_err() || writer.flush().is_err() {
-        return JobEnd::Failed(JobFault::Write);
-    }
-    if output.negative {
-        JobEnd::Negative
-    } else {
-        JobEnd::Done
-    }
-}
-
-/// Writes the output that answers the input, or nothing if there is a fault in its place, and returns how the job ends.
+/// Writes the output that answers the input, or nothing if there is a fault in its place, and returns how the job ends:
+/// Done, Negative if the output says no, or with the fault, which is Write if a write failed.
 pub fn deliver<W: Write>(writer: &mut W, answer: Result<Output, JobFault>) -> JobEnd
     ensures { Delivers answer (W.contents writer.old) (W.contents writer.new) result }
 {
     match answer {
-        Ok(output) => write_output(writer, &output),
+        Ok(output) => {
+            if writer.write_all(&output.text).is_err() || writer.flush().is_err() {
+                JobEnd::Failed(JobFault::Write)
+            } else if output.negative {
+                JobEnd::Negative
+            } else {
+                JobEnd::Done
+            }
+        }
         Err(fault) => JobEnd::Failed(fault),
     }
 }

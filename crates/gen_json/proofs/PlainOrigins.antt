@@ -8,11 +8,11 @@ use Rattle.gen_json.specs.JsonData.{digits_data, list_of, numbers_data}
 use Rattle.gen_json.specs.OriginData.{Origin, asked_data, input_data, maybe}
 use Rattle.gen_json.proofs.Plain.{items_plain, items_shallow, numbers_plain, numbers_shallow}
 
-maybe_plain : {A : Type 0} (f : A → Data) → ((x : A) → has_float (f x) ≡ false) → (o : Option A) → has_float (maybe f o) ≡ false
+pub maybe_plain : {A : Type 0} (f : A → Data) → ((x : A) → has_float (f x) ≡ false) → (o : Option A) → has_float (maybe f o) ≡ false
 maybe_plain f h None = refl
 maybe_plain f h (Some x) = h x
 
-maybe_shallow : {A : Type 0} (f : A → Data) (n : ℕ) → ((x : A) → depth (f x) ≤ n) → (o : Option A) → depth (maybe f o) ≤ n
+pub maybe_shallow : {A : Type 0} (f : A → Data) (n : ℕ) → ((x : A) → depth (f x) ≤ n) → (o : Option A) → depth (maybe f o) ≤ n
 maybe_shallow f n h None = omega arith
 maybe_shallow f n h (Some x) = h x
 

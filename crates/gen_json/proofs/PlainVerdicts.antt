@@ -5,6 +5,7 @@ use Rattle.std.specs.List.{range_with_len}
 use Rattle.serde_json.specs.Data.{depth}
 use Rattle.serde_json.specs.Written.{has_float}
 use Rattle.gen_plan.specs.EqualRoots.{equal_roots}
+use Rattle.gen_plan.specs.Parted.{parted_pair}
 use Rattle.gen_match.specs.declared.finding.Finding.{Finding}
 use Rattle.gen_match.specs.declared.finding.Finding.TheVariants.{Missing, Several, Unreadable, Foreign, Unsigned, Unsealed, Departs, Unmatched, Underivable, Unjoined, Nobody}
 use Rattle.gen_convict.specs.Evidence.{Accusation}
@@ -21,7 +22,7 @@ use Rattle.gen_json.specs.OriginData.{Origin}
 use Rattle.gen_json.specs.VerdictData.{decisions_in, judgement_data, order_data}
 use Rattle.gen_json.proofs.Plain.{items_plain, items_shallow, numbers_plain, numbers_shallow}
 use Rattle.gen_json.proofs.PlainLogs.{logs_plain, logs_shallow}
-use Rattle.gen_json.proofs.PlainOrigins.{asked_plain, asked_shallow, input_plain, input_shallow}
+use Rattle.gen_json.proofs.PlainOrigins.{asked_plain, asked_shallow, input_plain, input_shallow, maybe_plain, maybe_shallow}
 
 finding_plain : (f : Finding) → has_float (finding_data f) ≡ false
 finding_plain (Missing g) = refl
@@ -70,6 +71,7 @@ judgement_plain None b v xs =
       items_plain finding_data finding_plain (findings_in v),
       logs_plain b.header b.exhibits,
       order_plain v,
+      maybe_plain pair_data (λ p. refl) (parted_pair b.header.network b.faulty),
       items_plain (λ g. status_data g (status_of b.faulty (findings_in v) xs g)) (λ g. refl) (range_with_len 0 b.header.network.generals),
     )
     refl
@@ -84,6 +86,7 @@ judgement_plain (Some o) b v xs =
       input_plain o,
       logs_plain b.header b.exhibits,
       order_plain v,
+      maybe_plain pair_data (λ p. refl) (parted_pair b.header.network b.faulty),
       items_plain (λ g. status_data g (status_of b.faulty (findings_in v) xs g)) (λ g. refl) (range_with_len 0 b.header.network.generals),
     )
     refl
@@ -100,6 +103,7 @@ judgement_shallow None b v xs =
       items_shallow finding_data 1 finding_shallow (findings_in v),
       logs_shallow b.header b.exhibits,
       order_shallow v,
+      maybe_shallow pair_data 1 (λ p. omega arith) (parted_pair b.header.network b.faulty),
       items_shallow (λ g. status_data g (status_of b.faulty (findings_in v) xs g)) 1 (λ g. omega arith) (range_with_len 0 b.header.network.generals),
     )
 judgement_shallow (Some o) b v xs =
@@ -114,6 +118,7 @@ judgement_shallow (Some o) b v xs =
       input_shallow o,
       logs_shallow b.header b.exhibits,
       order_shallow v,
+      maybe_shallow pair_data 1 (λ p. omega arith) (parted_pair b.header.network b.faulty),
       items_shallow (λ g. status_data g (status_of b.faulty (findings_in v) xs g)) 1 (λ g. omega arith) (range_with_len 0 b.header.network.generals),
     )
 

@@ -26,17 +26,15 @@ use Rattle.gen_convict.specs.EvidenceReading.{whole_evidence}
 use Rattle.gen_convict.specs.EvidenceSpelling.{HeaderAndEvidence, evidence_marks}
 use Rattle.gen_audit.specs.Bundle.{Bundle}
 use Rattle.gen_audit.specs.BundleSpelling.{bundle_marks}
+use Rattle.gen_file.specs.declared.kinds.FileKind.TheVariants.{OfHeader, OfEvidence, OfCampaign}
+use Rattle.gen_file.specs.FaultText.{header_fault_name}
+use Rattle.gen_file.specs.FileFaultText.{evidence_fault_name}
+use Rattle.gen_file.specs.Parts.{bundle_front_length, bundle_length, claim_log_at, exhibit_front_length, exhibit_length, front_end, log_front_length}
 use Rattle.gen_campaign.specs.Campaign.{CampaignBundle}
+use Rattle.gen_campaign.specs.CampaignParts.{campaign_front_length}
 use Rattle.gen_campaign.specs.CampaignReading.{whole_campaign}
+use Rattle.gen_campaign.specs.FaultText.{campaign_fault_name}
 use Rattle.gen_campaign.specs.declared.campaign_fault.CampaignFault.{CampaignFault}
-use Rattle.gen_show.specs.BundleText.{bundle_front_length, bundle_length, exhibit_front_length, exhibit_length}
-use Rattle.gen_show.specs.CampaignText.{campaign_front_length}
-use Rattle.gen_show.specs.EvidenceText.{claim_log_at}
-use Rattle.gen_show.specs.FaultText.{header_fault_name}
-use Rattle.gen_show.specs.FileFaultText.{campaign_fault_name, evidence_fault_name}
-use Rattle.gen_show.specs.LogText.{log_front_length}
-use Rattle.gen_show.specs.Showing.{front_end}
-use Rattle.gen_show.specs.declared.kinds.FileKind.TheVariants.{OfHeader, OfEvidence, OfCampaign}
 use Rattle.gen_json.specs.EvidenceData.{evidence_data}
 use Rattle.gen_json.specs.Line.{json_line}
 use Rattle.gen_json.proofs.PlainEvidence.{evidence_plain}

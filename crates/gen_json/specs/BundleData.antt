@@ -5,7 +5,7 @@ use Rattle.serde_json.specs.Data.{Data, string}
 use Rattle.gen_net.specs.Header.{RunHeader}
 use Rattle.gen_log.specs.Writing.{LogBytes}
 use Rattle.gen_audit.specs.Bundle.{Bundle}
-use Rattle.gen_show.specs.BundleText.{bundle_front_length, bundle_length, exhibit_front_length, exhibit_length}
+use Rattle.gen_file.specs.Parts.{bundle_front_length, bundle_length, exhibit_front_length, exhibit_length}
 use Rattle.gen_json.specs.JsonData.{fields, json_version, numbers_data, whole}
 use Rattle.gen_json.specs.Line.{json_line}
 use Rattle.gen_json.specs.HeaderData.{header_lines}

@@ -3,7 +3,7 @@ use Rattle.std.specs.Prelude.{ℕ, List, [], ◌∷◌, ◌++◌, codes, length,
 use Rattle.serde_json.specs.Data.{Data, string}
 use Rattle.gen_audit.specs.Bundle.{Bundle}
 use Rattle.gen_campaign.specs.Campaign.{CampaignBundle}
-use Rattle.gen_show.specs.CampaignText.{campaign_front_length}
+use Rattle.gen_campaign.specs.CampaignParts.{campaign_front_length}
 use Rattle.gen_json.specs.JsonData.{fields, json_version, whole}
 use Rattle.gen_json.specs.Line.{json_line}
 use Rattle.gen_json.specs.BundleData.{bundle_lines, end_data, run_lines}

@@ -3,7 +3,7 @@ use Rattle.std.specs.Prelude.{ℕ, Bool, List, [], ◌++◌, codes}
 use Rattle.gen_net.specs.Header.{RunHeader}
 use Rattle.gen_convict.specs.Contradictions.{Claim, TwoTexts, TwoOrders, MissingFromLog, DepartingLog, AcrossRuns}
 use Rattle.gen_convict.specs.EvidenceSpelling.{HeaderAndEvidence}
-use Rattle.gen_show.specs.EvidenceText.{claim_log_at}
+use Rattle.gen_file.specs.Parts.{claim_log_at}
 use Rattle.gen_json.specs.EvidenceData.{evidence_data}
 use Rattle.gen_json.specs.Line.{json_line}
 use Rattle.gen_json.specs.BundleData.{end_line}

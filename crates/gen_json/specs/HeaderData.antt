@@ -5,7 +5,7 @@ use Rattle.serde_json.specs.Data.{Data, string}
 use Rattle.gen_net.specs.Header.{RunHeader, run_id_of}
 use Rattle.gen_net.specs.Version.{slot_in}
 use Rattle.gen_plan.specs.EqualRoots.{equal_roots}
-use Rattle.gen_show.specs.HeaderText.{version_number}
+use Rattle.gen_file.specs.Kinds.{version_number}
 use Rattle.gen_json.specs.JsonData.{digits_data, fields, json_version, list_of, network_data, pair_data, pairs_data, whole}
 use Rattle.gen_json.specs.Line.{json_line}
 

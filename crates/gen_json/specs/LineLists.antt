@@ -5,7 +5,7 @@ use Rattle.serde_json.specs.Data.{Num, unsigned, negative, float, Data, null, bo
 use Rattle.serde_json.specs.Data.{Items, no_items, item, Members, no_members, member}
 use Rattle.serde_json.specs.Written.{compact_text, has_float}
 use Rattle.gen_json.specs.Line.{json_line}
-use Rattle.gen_show.specs.declared.kinds.FileKind.{FileKind}
+use Rattle.gen_file.specs.declared.kinds.FileKind.{FileKind}
 use Rattle.gen_json.specs.ShowingLines.{IsJsonAs}
 
 -- The text is the lines of these values, none of which has a float.

@@ -14,11 +14,13 @@ use Rattle.gen_audit.specs.BundleSpelling.{bundle_marks}
 use Rattle.gen_campaign.specs.declared.campaign_fault.CampaignFault.{CampaignFault}
 use Rattle.gen_campaign.specs.Campaign.{CampaignBundle}
 use Rattle.gen_campaign.specs.CampaignReading.{whole_campaign}
-use Rattle.gen_show.specs.declared.kinds.FileKind.{FileKind}
-use Rattle.gen_show.specs.declared.kinds.FileKind.TheVariants.{OfHeader, OfEvidence, OfCampaign}
-use Rattle.gen_show.specs.FaultText.{header_fault_name}
-use Rattle.gen_show.specs.FileFaultText.{campaign_fault_name, evidence_fault_name}
-use Rattle.gen_show.specs.Showing.{Holds, front_end}
+use Rattle.gen_campaign.specs.FaultText.{campaign_fault_name}
+use Rattle.gen_file.specs.declared.kinds.FileKind.{FileKind}
+use Rattle.gen_file.specs.declared.kinds.FileKind.TheVariants.{OfHeader, OfEvidence, OfCampaign}
+use Rattle.gen_file.specs.FaultText.{header_fault_name}
+use Rattle.gen_file.specs.FileFaultText.{evidence_fault_name}
+use Rattle.gen_file.specs.Kinds.{Holds}
+use Rattle.gen_file.specs.Parts.{front_end}
 use Rattle.gen_json.specs.BundleData.{end_line}
 use Rattle.gen_json.specs.CampaignLines.{campaign_lines}
 use Rattle.gen_json.specs.EvidenceLines.{evidence_lines}

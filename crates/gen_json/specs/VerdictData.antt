@@ -3,19 +3,20 @@ use Rattle.std.specs.Prelude.{ℕ, List, [], ◌∷◌, codes, Option, Some, Non
 use Rattle.serde_json.specs.Data.{Data, Members, null, object, string}
 use Rattle.gen_net.specs.Header.{run_id_of}
 use Rattle.gen_plan.specs.EqualRoots.{equal_roots}
+use Rattle.gen_plan.specs.Parted.{parted_pair}
 use Rattle.gen_scenario.specs.declared.scenario.Decision.{Decision}
 use Rattle.gen_convict.specs.Evidence.{Accusation}
 use Rattle.gen_audit.specs.Bundle.{Bundle}
 use Rattle.gen_audit.specs.declared.verdicts.Verdict.{Verdict}
 use Rattle.gen_audit.specs.declared.verdicts.Verdict.TheVariants.{Agreed, Explained, No}
 use Rattle.gen_audit.specs.Verdict.{findings_in}
-use Rattle.gen_json.specs.JsonData.{whole, list_of, numbers_data, pairs_data, digits_data, json_version, members, network_data}
+use Rattle.gen_json.specs.JsonData.{whole, list_of, numbers_data, pair_data, pairs_data, digits_data, json_version, members, network_data}
 use Rattle.gen_json.specs.DecidedLogs.{logs_data}
 use Rattle.gen_json.specs.FindingData.{finding_data}
 use Rattle.gen_json.specs.StatusData.{statuses_data}
 use Rattle.gen_json.specs.DecisionData.{decided_data}
 use Rattle.gen_json.specs.ConvictionData.{conviction_data}
-use Rattle.gen_json.specs.OriginData.{Origin, with_origin}
+use Rattle.gen_json.specs.OriginData.{Origin, maybe, with_origin}
 
 -- the word for a verdict
 abbrev pub verdict_word : Verdict → List ℕ
@@ -38,8 +39,10 @@ decisions_in (No findings) = []
 -- The fields of a judgement, of its parts and the word for its verdict. They stand in the order of their
 -- names.
 abbrev pub verdict_members :
-    (convictions decisions equal faulty findings logs network order run statuses : Data) → List ℕ → Members
-verdict_members convictions decisions equal faulty findings logs network order run statuses word = members (
+    (convictions decisions equal faulty findings logs network order parted run statuses : Data) → List ℕ
+    → Members
+verdict_members convictions decisions equal faulty findings logs network order parted run statuses w =
+    members (
     (codes "convictions", convictions)
     ∷ (codes "decisions", decisions)
     ∷ (codes "equal_roots", equal)
@@ -49,9 +52,10 @@ verdict_members convictions decisions equal faulty findings logs network order r
     ∷ (codes "logs", logs)
     ∷ (codes "network", network)
     ∷ (codes "order", order)
+    ∷ (codes "parted", parted)
     ∷ (codes "run", run)
     ∷ (codes "statuses", statuses)
-    ∷ (codes "verdict", string word)
+    ∷ (codes "verdict", string w)
     ∷ (codes "version", whole json_version)
     ∷ [])
 
@@ -61,7 +65,7 @@ judgement_members b verdict convictions =
     verdict_members (list_of conviction_data convictions) (list_of decided_data (decisions_in verdict))
     (pairs_data (equal_roots b.header)) (numbers_data b.faulty) (list_of finding_data (findings_in verdict))
     (logs_data b.header b.exhibits) (network_data b.header.network) (order_data verdict)
-    (digits_data (run_id_of b.header))
+    (maybe pair_data (parted_pair b.header.network b.faulty)) (digits_data (run_id_of b.header))
     (statuses_data b.header.network b.faulty (findings_in verdict) convictions) (verdict_word verdict)
 
 -- the object of these fields, and of those of where the answer comes from, if that is told

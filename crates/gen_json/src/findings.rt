@@ -6,9 +6,9 @@ ghost use Rattle.gen_json.specs.JsonData.{list_of};
 ghost use Rattle.gen_json.specs.FindingData.{about, about_message, finding_data};
 
 use crate::objects::ObjectBuilder;
+use gen_file::push_log_fault;
 use gen_log::LogFault;
 use gen_match::Finding;
-use gen_show::push_log_fault;
 use gen_types::{GeneralNo, OrderNo};
 use serde_json::Value;
 use std::alloc::{AllocError, Global};

@@ -1,7 +1,8 @@
 //! What a file is, as lines of JSON.
 ghost use Rattle.std.specs.Prelude.{◌≡◌, IfOk};
-ghost use Rattle.gen_show.specs.Showing.{file_kind, is_whole_as};
-ghost use Rattle.gen_show.specs.declared.kinds.FileKind.TheVariants as kinds;
+ghost use Rattle.gen_file.specs.Kinds.{file_kind};
+ghost use Rattle.gen_file.specs.declared.kinds.FileKind.TheVariants as kinds;
+ghost use Rattle.gen_campaign.specs.WholeFile.{is_whole_as};
 ghost use Rattle.gen_json.specs.ShowingLines.{IsJsonAs, faulty_lines};
 
 use crate::shown_bundles::push_end;
@@ -9,13 +10,13 @@ use crate::shown_campaigns::push_campaign;
 use crate::shown_evidence::push_evidence;
 use crate::shown_faults::push_fault;
 use crate::shown_headers::push_header;
-use gen_campaign::read_campaign;
+use gen_campaign::{push_campaign_fault, read_campaign};
 use gen_convict::{check_evidence, read_evidence};
-use gen_net::{Marks, read_front, read_header};
-use gen_show::{
-    BUNDLE_MARKS, EVIDENCE_MARKS, FileKind, Shown, file_kind, front_length, push_campaign_fault,
-    push_evidence_fault, push_header_fault,
+use gen_file::{
+    BUNDLE_MARKS, EVIDENCE_MARKS, FileKind, Shown, file_kind, front_length, push_evidence_fault,
+    push_header_fault,
 };
+use gen_net::{Marks, read_front, read_header};
 use gen_types::ReadError;
 use std::alloc::{AllocError, Global};
 
@@ -49,7 +50,7 @@ fn faulty(
 }
 
 /// Returns the lines of what is read as shown of a campaign.
-#[tactic(auto, using(gen_show::proofs::CampaignLengths::campaign_has_room))]
+#[tactic(auto, using(gen_campaign::proofs::CampaignLengths::campaign_has_room))]
 fn show_campaign(alloc: Global, input: &[u8]) -> Result<Shown, AllocError>
     ensures text { IfOk result (λ s. IsJsonAs kinds.OfCampaign input.now s.text.items) }
     ensures whole { IfOk result (λ s. s.whole ≡ is_whole_as kinds.OfCampaign input.now) }
@@ -73,7 +74,7 @@ fn show_campaign(alloc: Global, input: &[u8]) -> Result<Shown, AllocError>
 }
 
 /// Returns the lines of what is read as evidence.
-#[tactic(auto, using(gen_show::proofs::EvidenceLengths::has_room))]
+#[tactic(auto, using(gen_file::proofs::EvidenceLengths::has_room))]
 fn show_evidence(alloc: Global, input: &[u8]) -> Result<Shown, AllocError>
     ensures text { IfOk result (λ s. IsJsonAs kinds.OfEvidence input.now s.text.items) }
     ensures whole { IfOk result (λ s. s.whole ≡ is_whole_as kinds.OfEvidence input.now) }

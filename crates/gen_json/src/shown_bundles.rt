@@ -1,7 +1,7 @@
 //! Bundles as JSON.
 ghost use Rattle.std.specs.Prelude.{◌≡◌, ◌+◌, ◌<◌, ◌^◌, ◌++◌, IfOk, OnOk, sum_by};
 ghost use Rattle.std.specs.List.{flat_map};
-ghost use Rattle.gen_show.specs.BundleText.{bundle_length, exhibit_length};
+ghost use Rattle.gen_file.specs.Parts.{bundle_length, exhibit_length};
 ghost use Rattle.gen_json.specs.Line.{json_line};
 ghost use Rattle.gen_json.specs.BundleData.{bundle_lines, end_data, exhibit_lines, faulty_data, run_lines, walk_line};
 
@@ -11,9 +11,9 @@ use crate::shown_headers::push_header;
 use crate::shown_lines::push_value;
 use crate::shown_logs::push_log;
 use gen_audit::Bundle;
+use gen_file::{EXHIBIT_FRONT, bundle_front_length, exhibit_bytes};
 use gen_local::Exhibit;
 use gen_net::Header;
-use gen_show::{EXHIBIT_FRONT, bundle_front_length, exhibit_bytes};
 use gen_types::GeneralSet;
 use gen_walks::Walk;
 use serde_json::Value;

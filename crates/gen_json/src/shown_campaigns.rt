@@ -1,14 +1,13 @@
 //! What is shown of a campaign, as JSON.
 ghost use Rattle.std.specs.Prelude.{◌≡◌, ◌++◌, IfOk, OnOk};
 ghost use Rattle.serde_json.specs.View.{view};
-ghost use Rattle.gen_show.specs.CampaignText.{HaveRoom};
+ghost use Rattle.gen_campaign.specs.CampaignParts.{HaveRoom};
 ghost use Rattle.gen_json.specs.CampaignLines.{campaign_data, campaign_lines};
 
 use crate::objects::{JSON_VERSION, ObjectBuilder};
 use crate::shown_bundles::{push_bundle, push_end, push_runs};
 use crate::shown_lines::push_value;
-use gen_campaign::CampaignBundle;
-use gen_show::CAMPAIGN_FRONT;
+use gen_campaign::{CAMPAIGN_FRONT, CampaignBundle};
 use serde_json::Value;
 use std::alloc::{AllocError, Global};
 

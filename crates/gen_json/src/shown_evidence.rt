@@ -2,7 +2,7 @@
 ghost use Rattle.std.specs.Prelude.{◌≡◌, ◌<◌, ◌++◌, OnOk};
 ghost use Rattle.gen_convict.specs.Evidence.{told_of};
 ghost use Rattle.gen_convict.specs.Told.{told};
-ghost use Rattle.gen_show.specs.EvidenceText.{HasRoom};
+ghost use Rattle.gen_file.specs.Parts.{HasRoom};
 ghost use Rattle.gen_json.specs.EvidenceLines.{claim_lines, evidence_lines};
 
 use crate::evidence::evidence_value;
@@ -11,8 +11,8 @@ use crate::shown_headers::push_header;
 use crate::shown_lines::push_value;
 use crate::shown_logs::push_log;
 use gen_convict::{Claim, Evidence};
+use gen_file::claim_log_at;
 use gen_net::Header;
-use gen_show::claim_log_at;
 use gen_types::GeneralNo;
 use std::alloc::{AllocError, Global};
 

@@ -7,9 +7,9 @@ ghost use Rattle.gen_json.specs.HeaderData.{equal_roots_data, equal_roots_line, 
 use crate::numbers::{all_digits_value, digits_value, network_value, pair_value, pairs_value};
 use crate::objects::{JSON_VERSION, ObjectBuilder};
 use crate::shown_lines::push_value;
+use gen_file::version_number;
 use gen_net::Header;
 use gen_plan::equal_roots;
-use gen_show::version_number;
 use gen_types::GeneralNo;
 use serde_json::Value;
 use std::alloc::{AllocError, Global};

@@ -7,9 +7,9 @@ use crate::numbers::digits_value;
 use crate::objects::{JSON_VERSION, ObjectBuilder};
 use crate::shown_entries::push_entries;
 use crate::shown_lines::push_value;
+use gen_file::{LOG_FRONT, push_log_fault};
 use gen_log::{Entry, read_log};
 use gen_net::Header;
-use gen_show::{LOG_FRONT, push_log_fault};
 use gen_types::{GeneralNo, ReadError};
 use serde_json::Value;
 use std::alloc::{AllocError, Global};
@@ -40,7 +40,7 @@ fn head_value(
 
 /// Appends the lines of bytes that begin at this byte of a file and are shown as the log of a general in the run of a
 /// header: if they are a log, what the log says, or else their fault.
-#[tactic(auto, using(gen_show::proofs::Lengths::entries_within, crate::proofs::PlainShown::log_plain, crate::proofs::PlainShown::head_plain, crate::proofs::PlainShown::unreadable_plain), unfolding(crate::specs::LogData::log_lines, crate::specs::LogData::log_data, crate::specs::LogData::unreadable_data))]
+#[tactic(auto, using(gen_file::proofs::Lengths::entries_within, crate::proofs::PlainShown::log_plain, crate::proofs::PlainShown::head_plain, crate::proofs::PlainShown::unreadable_plain), unfolding(crate::specs::LogData::log_lines, crate::specs::LogData::log_data, crate::specs::LogData::unreadable_data))]
 pub fn push_log(
     alloc: Global,
     out: &mut Vec<u8>,

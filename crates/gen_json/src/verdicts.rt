@@ -3,8 +3,10 @@ ghost use Rattle.std.specs.Prelude.{◌≡◌, IfOk, Some, map, option_map};
 ghost use Rattle.serde_json.specs.View.{view};
 ghost use Rattle.gen_convict.specs.Evidence.{told_of};
 ghost use Rattle.gen_plan.specs.EqualRoots.{equal_roots};
-ghost use Rattle.gen_json.specs.JsonData.{pairs_data};
+ghost use Rattle.gen_plan.specs.Parted.{parted_pair};
+ghost use Rattle.gen_json.specs.JsonData.{pair_data, pairs_data};
 ghost use Rattle.gen_json.specs.Line.{ReadsAs, json_line};
+ghost use Rattle.gen_json.specs.OriginData.{maybe};
 ghost use Rattle.gen_json.specs.VerdictData.{decisions_in, judgement_data, order_data, verdict_word};
 
 use crate::convictions::convictions_value;
@@ -12,14 +14,15 @@ use crate::decided_logs::logs_value;
 use crate::decisions::all_decided_value;
 use crate::findings::findings_value;
 use crate::lines::value_line;
-use crate::numbers::{digits_value, network_value, pairs_value, set_value};
+use crate::numbers::{digits_value, network_value, pair_value, pairs_value, set_value};
 use crate::objects::{JSON_VERSION, ObjectBuilder};
 use crate::origins::{Origin, finish_from};
 use crate::statuses::statuses_value;
 use gen_audit::{Bundle, Judgement, Verdict};
-use gen_net::Header;
-use gen_plan::equal_roots;
+use gen_net::{Header, Net};
+use gen_plan::{equal_roots, parted_pair};
 use gen_scenario::Decision;
+use gen_types::GeneralSet;
 use serde_json::Value;
 use std::alloc::{AllocError, Global};
 
@@ -43,6 +46,17 @@ fn equal_roots_value(alloc: Global, header: &Header) -> Result<Value, AllocError
 {
     let pairs = equal_roots(alloc, header)?;
     pairs_value(alloc, pairs.as_slice())
+}
+
+/// Returns the least pair of the generals that are not faulty which no walk of at most d edges through such generals
+/// joins, and null if each pair is joined.
+fn parted_value(alloc: Global, net: &Net, faulty: &GeneralSet) -> Result<Value, AllocError>
+    ensures { IfOk result (λ v. view v ≡ maybe pair_data (parted_pair net.now faulty.now)) }
+{
+    match parted_pair(net, faulty) {
+        Some(pair) => pair_value(alloc, pair),
+        None => Ok(Value::Null),
+    }
 }
 
 /// Returns the judgement on a bundle, with where the answer comes from, if that is told.
@@ -70,6 +84,7 @@ pub(crate) fn judgement_value(
     object.put_made("logs", logs_value(alloc, header, bundle.exhibits()));
     object.put_made("network", network_value(alloc, net));
     object.put("order", order);
+    object.put_made("parted", parted_value(alloc, net, faulty));
     object.put_made("run", digits_value(alloc, header.run_id()));
     object.put_made(
         "statuses",
@@ -84,8 +99,9 @@ pub(crate) fn judgement_value(
 }
 
 /// Returns the line of JSON of a judgement on a bundle. It has the run id, the numbers of the network, the generals that
-/// are held for faulty, the pairs of generals that have the same root, the status of each general, what each log decided,
-/// the verdict with its order, its decisions or its findings, the convictions, and where the answer comes from.
+/// are held for faulty, the least pair of the others that has no walk, the pairs of generals that have the same root, the
+/// status of each general, what each log decided, the verdict with its order, its decisions or its findings, the
+/// convictions, and where the answer comes from.
 ///
 /// # Errors
 ///

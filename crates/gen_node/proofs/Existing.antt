@@ -6,8 +6,9 @@ use Rattle.std.proofs.lemmas.Bool.{eqb-true, eq-eqb}
 use Rattle.std.proofs.lemmas.List.Elements.{Contains-append_cases, Contains-append_left, Contains-append_right}
 use Rattle.gen_types.specs.Members.{Contains_cases, Contains_nil, bool_cases, filter_range_gives, filter_range_has}
 use Rattle.gen_types.proofs.Lists.{Contains_mapped}
-use Rattle.gen_tree.specs.Rings.{Ring, seed_of}
+use Rattle.gen_tree.specs.Rings.{KeyTree, Ring}
 use Rattle.gen_net.specs.Header.{RunHeader}
+use Rattle.gen_net.specs.Version.{height_in}
 use Rattle.gen_chain.specs.Leaves.{leaf_of_order}
 use Rattle.gen_script.specs.declared.lines.ScriptLine.{ScriptLine}
 use Rattle.gen_scenario.proofs.Having.{in_mapped}
@@ -15,6 +16,7 @@ use Rattle.gen_scenario.specs.declared.heard.Heard.{Heard}
 use Rattle.gen_scenario.specs.RoundEntries.{sign_entries}
 use Rattle.gen_scenario.specs.Scenario.{Scenario, header_of, script_of}
 use Rattle.gen_scenario.specs.SignedWorld.{frame_at, neighbours_of, own_order}
+use Rattle.gen_scenario.specs.Trees.{general_tree}
 use Rattle.gen_general.specs.Following.{IsSignedWith, round_signed}
 use Rattle.gen_general.specs.Participant.{Participant, RingAfter, sender_at}
 use Rattle.gen_general.specs.Recording.{Recorder, RecordsRound}
@@ -141,11 +143,14 @@ handed_in s begun k g from near = ap (λ held. unwrap_or held []) (held_among (p
 
 -- ---- all rounds
 
+abbrev tree_of : Scenario → ℕ → KeyTree
+tree_of s g = general_tree s.master (height_in s.version) g
+
 unfoldable after_rounds : Scenario → ℕ → ℕ → Node
-after_rounds s zero g = node_at_start (header_of s) g (own_order s g) (fresh_ring (header_of s) (seed_of s.master g))
+after_rounds s zero g = node_at_start (header_of s) g (own_order s g) (fresh_ring (tree_of s g))
 after_rounds s (suc k) g = ended (full_node s (λ v. begun_node (after_rounds s k v)) k g)
 
-after_none : (s : Scenario) (g : ℕ) → after_rounds s 0 g ≡ node_at_start (header_of s) g (own_order s g) (fresh_ring (header_of s) (seed_of s.master g))
+after_none : (s : Scenario) (g : ℕ) → after_rounds s 0 g ≡ node_at_start (header_of s) g (own_order s g) (fresh_ring (tree_of s g))
 unfolding after_rounds
 after_none s g = refl
 
@@ -166,7 +171,7 @@ nodes_of s = record {
 
 hand_on : (s : Scenario) → HandOn s (nodes_of s)
 hand_on s = record {
-  starts = λ g his. (fresh_ring (header_of s) (seed_of s.master g), refl, after_none s g);
+  starts = λ g his. (fresh_ring (tree_of s g), refl, after_none s g);
   begins = λ k g low his. begins_now (after_rounds s k g) (stands_between s k g);
   stays = λ k g low his. (refl, refl);
   honest = λ k g from low his near honest.

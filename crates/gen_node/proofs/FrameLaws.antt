@@ -6,16 +6,17 @@ use Rattle.std.proofs.lemmas.Bool.{eqb-true}
 use Rattle.std.proofs.lemmas.List.{append-nil}
 use Rattle.gen_types.specs.Reading.{◌>>=◌, check}
 use Rattle.gen_types.specs.Bytes.{byte_at, bytes_at, number_at, many_at}
-use Rattle.gen_types.specs.Spelled.{Spells}
+use Rattle.gen_types.specs.Spelled.{Spells, StandsInFront}
 use Rattle.gen_types.proofs.ByteFields.{IsBytes, Takes, Takes-then, byte_takes, bytes_takes, bytes_again, number_takes, number_again, wide16, wide32}
 use Rattle.gen_types.proofs.ManyFields.{Reads, many_take, many_again}
 use Rattle.gen_types.proofs.Steps.{after, after_check, at_end}
 use Rattle.gen_log.specs.Log.{run_id_length}
 use Rattle.gen_node.specs.declared.frames.FrameFront.{FrameFront}
+use Rattle.gen_node.specs.declared.frames.FrameHead.{FrameHead}
 use Rattle.gen_node.specs.declared.frame_fault.FrameFault.{FrameFault}
 use Rattle.gen_node.specs.declared.frame_fault.FrameFault.TheVariants as faults
-use Rattle.gen_node.specs.Frame.{WireFrame, IsFront, IsParcel, IsFrame, frame_mark, front_spelling, parcel_spelling, frame_spelling}
-use Rattle.gen_node.specs.FrameReading.{run_at, front_at, parcel_at, frame_at, whole_frame}
+use Rattle.gen_node.specs.Frame.{WireFrame, IsFront, IsHead, IsParcel, IsFrame, frame_mark, front_spelling, head_spelling, head_of, parcel_spelling, frame_spelling}
+use Rattle.gen_node.specs.FrameReading.{run_at, front_at, head_at, head_in, parcel_at, frame_at, whole_frame}
 
 -- ---- the mark and the run id
 
@@ -71,6 +72,42 @@ front_again f rest is =
     let regrouped : front_spelling f ++ rest ≡ mark_bytes ++ (f.run_id ++ (ends ++ rest)) = append_assoc mark_bytes (f.run_id ++ ends) rest ∙ ap (λ (t : List ℕ). mark_bytes ++ t) (append_assoc f.run_id ends rest) in
     ap front_at regrouped ∙ rw (run_again f.run_id (ends ++ rest) is.run_id) refl
 
+-- ---- the head
+
+abbrev HeadTaken : List ℕ → FrameHead × List ℕ → Type 0
+HeadTaken bytes x = Takes bytes (head_spelling x.0) x.1 × IsHead x.0
+
+head_takes : (bytes : List ℕ) (x : FrameHead × List ℕ) → IsBytes bytes → head_at bytes ≡ Ok x → HeadTaken bytes x
+unfolding head_at
+head_takes bytes x fits e =
+    after (front_at bytes) (λ front. number_at faults.Truncated w16 front.1 >>= λ count. Ok (record { front = front.0; parcel_count = count.0 }, count.1)) x e (λ front r0 e0.
+    after (number_at faults.Truncated w16 front.1) (λ count. Ok (record { front = front.0; parcel_count = count.0 }, count.1)) x e0 (λ count r1 e1.
+    let t0 = front_takes bytes front fits r0 in
+    let t1 = number_takes faults.Truncated w16 (2 ^ 16) wide16 front.1 count.0 count.1 t0.0.rest_fits r1 in
+    let all = Takes-then bytes (front_spelling front.0) front.1 (to_be_bytes w16 count.0) count.1 t0.0 t1.0 in
+    at_end {F = FrameFault} (HeadTaken bytes) (record { front = front.0; parcel_count = count.0 }, count.1) x e1 (all, record { front = t0.1; few = t1.1 })))
+
+head_again : (h : FrameHead) (rest : List ℕ) → IsHead h → head_at (head_spelling h ++ rest) ≡ Ok (h, rest)
+unfolding head_at
+head_again h rest is =
+    let count : List ℕ = to_be_bytes w16 h.parcel_count in
+    let regrouped : head_spelling h ++ rest ≡ front_spelling h.front ++ (count ++ rest) = append_assoc (front_spelling h.front) count rest in
+    ap head_at regrouped ∙ rw (front_again h.front (count ++ rest) is.front, number_again faults.Truncated w16 (2 ^ 16) wide16 h.parcel_count rest is.few) refl
+
+heads_read : Reads head_at head_spelling IsHead
+heads_read = record { takes = head_takes; again = head_again }
+
+pub head_found : (bytes : List ℕ) (h : FrameHead) → IsBytes bytes → head_in bytes ≡ Ok h → StandsInFront IsHead head_spelling bytes h
+head_found bytes h fits e =
+    after (head_at bytes) (λ head. Ok head.0) h e (λ head r0 e0.
+    let t = heads_read.takes bytes head fits r0 in
+    at_end {F = FrameFault} (StandsInFront IsHead head_spelling bytes) head.0 h e0 (record { fits = t.1; rest = head.1; parts = t.0.parts }))
+
+pub head_only : (bytes : List ℕ) (h : FrameHead) → StandsInFront IsHead head_spelling bytes h → head_in bytes ≡ Ok h
+head_only bytes h stands =
+    let read : head_at bytes ≡ Ok (h, stands.rest) = ap head_at stands.parts ∙ heads_read.again h stands.rest stands.fits in
+    rw read refl
+
 -- ---- parcels
 
 abbrev ParcelTaken : List ℕ → List ℕ × List ℕ → Type 0
@@ -102,25 +139,21 @@ FrameTaken bytes x = Takes bytes (frame_spelling x.0) x.1 × IsFrame x.0
 frame_takes : (bytes : List ℕ) (x : WireFrame × List ℕ) → IsBytes bytes → frame_at bytes ≡ Ok x → FrameTaken bytes x
 unfolding frame_at
 frame_takes bytes x fits e =
-    after (front_at bytes) (λ front. number_at faults.Truncated w16 front.1 >>= λ count. many_at parcel_at count.0 count.1 >>= λ parcels. Ok (record { front = front.0; parcels = parcels.0 }, parcels.1)) x e (λ front r0 e0.
-    after (number_at faults.Truncated w16 front.1) (λ count. many_at parcel_at count.0 count.1 >>= λ parcels. Ok (record { front = front.0; parcels = parcels.0 }, parcels.1)) x e0 (λ count r1 e1.
-    after (many_at parcel_at count.0 count.1) (λ parcels. Ok (record { front = front.0; parcels = parcels.0 }, parcels.1)) x e1 (λ parcels r2 e2.
-    let t0 = front_takes bytes front fits r0 in
-    let t1 = number_takes faults.Truncated w16 (2 ^ 16) wide16 front.1 count.0 count.1 t0.0.rest_fits r1 in
-    let t2 = many_take parcel_at parcel_spelling IsParcel parcels_read count.0 count.1 parcels t1.0.rest_fits r2 in
-    let t12 = Takes-then front.1 (to_be_bytes w16 count.0) count.1 (flat_map parcel_spelling parcels.0) parcels.1 t1.0 t2.0 in
-    let all = Takes-then bytes (front_spelling front.0) front.1 (to_be_bytes w16 count.0 ++ flat_map parcel_spelling parcels.0) parcels.1 t0.0 t12 in
-    let text : Takes bytes (front_spelling front.0 ++ (to_be_bytes w16 (length parcels.0) ++ flat_map parcel_spelling parcels.0)) parcels.1 = subst (λ (n : ℕ). Takes bytes (front_spelling front.0 ++ (to_be_bytes w16 n ++ flat_map parcel_spelling parcels.0)) parcels.1) (sym t2.1) all in
-    let few : length parcels.0 < 2 ^ 16 = subst (λ (n : ℕ). n < 2 ^ 16) (sym t2.1) t1.1 in
-    at_end {F = FrameFault} (FrameTaken bytes) (record { front = front.0; parcels = parcels.0 }, parcels.1) x e2 (text, record { front = t0.1; few = few; short = t2.2 }))))
+    after (head_at bytes) (λ head. many_at parcel_at head.0.parcel_count head.1 >>= λ parcels. Ok (record { front = head.0.front; parcels = parcels.0 }, parcels.1)) x e (λ head r0 e0.
+    after (many_at parcel_at head.0.parcel_count head.1) (λ parcels. Ok (record { front = head.0.front; parcels = parcels.0 }, parcels.1)) x e0 (λ parcels r1 e1.
+    let t0 = head_takes bytes head fits r0 in
+    let t1 = many_take parcel_at parcel_spelling IsParcel parcels_read head.0.parcel_count head.1 parcels t0.0.rest_fits r1 in
+    let all = Takes-then bytes (head_spelling head.0) head.1 (flat_map parcel_spelling parcels.0) parcels.1 t0.0 t1.0 in
+    let text : Takes bytes (head_spelling (record { front = head.0.front; parcel_count = length parcels.0 }) ++ flat_map parcel_spelling parcels.0) parcels.1 = subst (λ (n : ℕ). Takes bytes (head_spelling (record { front = head.0.front; parcel_count = n }) ++ flat_map parcel_spelling parcels.0) parcels.1) (sym t1.1) all in
+    let few : length parcels.0 < 2 ^ 16 = subst (λ (n : ℕ). n < 2 ^ 16) (sym t1.1) t0.1.few in
+    at_end {F = FrameFault} (FrameTaken bytes) (record { front = head.0.front; parcels = parcels.0 }, parcels.1) x e1 (text, record { front = t0.1.front; few = few; short = t1.2 })))
 
 frame_again : (f : WireFrame) (rest : List ℕ) → IsFrame f → frame_at (frame_spelling f ++ rest) ≡ Ok (f, rest)
 unfolding frame_at
 frame_again f rest is =
-    let count : List ℕ = to_be_bytes w16 (length f.parcels) in
     let parcels : List ℕ = flat_map parcel_spelling f.parcels in
-    let regrouped : frame_spelling f ++ rest ≡ front_spelling f.front ++ (count ++ (parcels ++ rest)) = append_assoc (front_spelling f.front) (count ++ parcels) rest ∙ ap (λ (t : List ℕ). front_spelling f.front ++ t) (append_assoc count parcels rest) in
-    ap frame_at regrouped ∙ rw (front_again f.front (count ++ (parcels ++ rest)) is.front, number_again faults.Truncated w16 (2 ^ 16) wide16 (length f.parcels) (parcels ++ rest) is.few, many_again parcel_at parcel_spelling IsParcel parcels_read f.parcels rest is.short) refl
+    let regrouped : frame_spelling f ++ rest ≡ head_spelling (head_of f) ++ (parcels ++ rest) = append_assoc (head_spelling (head_of f)) parcels rest in
+    ap frame_at regrouped ∙ rw (head_again (head_of f) (parcels ++ rest) (record { front = is.front; few = is.few }), many_again parcel_at parcel_spelling IsParcel parcels_read f.parcels rest is.short) refl
 
 pub frames_read : Reads frame_at frame_spelling IsFrame
 frames_read = record { takes = frame_takes; again = frame_again }
@@ -146,3 +179,11 @@ unfolding whole_frame
 frame_only bytes f spells =
     let read : frame_at bytes ≡ Ok (f, []) = ap frame_at (spells.spelled ∙ sym (append-nil (frame_spelling f))) ∙ frames_read.again f [] spells.fits in
     rw read refl
+
+-- the head of a frame that all the bytes are
+pub head_of_frame : (bytes : List ℕ) (f : WireFrame) → Spells IsFrame frame_spelling bytes f → head_in bytes ≡ Ok (head_of f)
+head_of_frame bytes f spells = head_only bytes (head_of f) (record {
+  fits = record { front = spells.fits.front; few = spells.fits.few };
+  rest = flat_map parcel_spelling f.parcels;
+  parts = spells.spelled;
+})

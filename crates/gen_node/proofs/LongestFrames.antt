@@ -64,7 +64,7 @@ frame_length : (f : WireFrame) → IsFrame f → length (frame_spelling f) ≡ 4
 frame_length f is =
     let count : List ℕ = to_be_bytes w16 (length f.parcels) in
     let two : length count ≡ 2 = refl in
-    omega (arith, length-append (front_spelling f.front) (count ++ flat_map parcel_spelling f.parcels), length-append count (flat_map parcel_spelling f.parcels), two, front_length f.front is.front)
+    omega (arith, length-append (front_spelling f.front ++ count) (flat_map parcel_spelling f.parcels), length-append (front_spelling f.front) count, two, front_length f.front is.front)
 
 frame_within : (h : RunHeader) (round : ℕ) (f : WireFrame) → IsFrame f → length f.parcels ≤ h.network.orders → All (IsShort h round) f.parcels → length (frame_spelling f) ≤ frame_most_in h round
 unfolding frame_most_in

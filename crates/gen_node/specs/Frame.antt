@@ -4,6 +4,7 @@ use Rattle.std.specs.List.{flat_map, AllByRecursion}
 use Rattle.std.specs.Int.{w16, w32, to_be_bytes}
 use Rattle.gen_log.specs.Log.{run_id_length}
 use Rattle.gen_node.specs.declared.frames.FrameFront.{FrameFront}
+use Rattle.gen_node.specs.declared.frames.FrameHead.{FrameHead}
 
 -- a frame: its front, and its parcels
 pub record WireFrame : Type 0 where
@@ -21,6 +22,11 @@ pub record IsFront (f : FrameFront) : Type 0 where
   pub from : f.from < 256
   pub to : f.to < 256
 
+-- the front fits, and the number of parcels fits into two bytes
+pub record IsHead (h : FrameHead) : Type 0 where
+  pub front : IsFront h.front
+  pub few : h.parcel_count < 2 ^ 16
+
 -- the parcel's length fits into four bytes
 abbrev pub IsParcel : List ℕ → Type 0
 IsParcel parcel = length parcel < 2 ^ 32
@@ -35,11 +41,18 @@ pub record IsFrame (f : WireFrame) : Type 0 where
 abbrev pub front_spelling : FrameFront → List ℕ
 front_spelling f = to_be_bytes w32 frame_mark ++ (f.run_id ++ f.round ∷ f.from ∷ f.to ∷ [])
 
+-- the spelling of a head: its front, and the number of parcels in two bytes
+abbrev pub head_spelling : FrameHead → List ℕ
+head_spelling h = front_spelling h.front ++ to_be_bytes w16 h.parcel_count
+
 -- the spelling of a parcel: its length in four bytes, and the parcel
 abbrev pub parcel_spelling : List ℕ → List ℕ
 parcel_spelling parcel = to_be_bytes w32 (length parcel) ++ parcel
 
--- the spelling of a frame: its front, the number of parcels in two bytes, and the parcels
+-- the head of a frame
+abbrev pub head_of : WireFrame → FrameHead
+head_of f = record { front = f.front; parcel_count = length f.parcels }
+
+-- the spelling of a frame: its head, and the parcels
 abbrev pub frame_spelling : WireFrame → List ℕ
-frame_spelling f =
-    front_spelling f.front ++ (to_be_bytes w16 (length f.parcels) ++ flat_map parcel_spelling f.parcels)
+frame_spelling f = head_spelling (head_of f) ++ flat_map parcel_spelling f.parcels

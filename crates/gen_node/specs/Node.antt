@@ -5,7 +5,7 @@ use Rattle.std.specs.List.{range_with_len}
 use Rattle.std.specs.Str.{bytes_eq}
 use Rattle.gen_types.specs.Ends.{is_among}
 use Rattle.gen_types.specs.Reading.{◌>>=◌, check}
-use Rattle.gen_tree.specs.Rings.{Ring, ring_root}
+use Rattle.gen_tree.specs.Rings.{KeyTree, Ring, ring_root}
 use Rattle.gen_net.specs.Header.{RunHeader, height_of, root_of, run_id_of}
 use Rattle.gen_net.specs.Network.{rounds}
 use Rattle.gen_scenario.specs.declared.scenario.Decision.{Decision}
@@ -41,9 +41,9 @@ node_at_start h g own ring = record {
 
 -- ---- when there is a node
 
--- the ring of a seed for a run, from which no leaf was taken
-abbrev pub fresh_ring : RunHeader → List ℕ → Ring
-fresh_ring h seed = record { seed = seed; height = height_of h; taken = [] }
+-- the ring of a tree of keys, from which no leaf was taken
+abbrev pub fresh_ring : KeyTree → Ring
+fresh_ring tree = record { seed = tree.seed; height = tree.height; taken = [] }
 
 -- The ring has the height of the header's version. g is one of the header's generals, with an order if and
 -- only if it is the commander. The header has the root of its keys.

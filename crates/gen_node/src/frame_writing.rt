@@ -1,12 +1,10 @@
 //! Writes frames as bytes.
-ghost use Rattle.std.specs.Prelude.{◌≡◌, ◌<◌, ◌^◌, ◌++◌, ◌↔◌, All, Err, IfOk, IsTrue, OnOk, length};
+ghost use Rattle.std.specs.Prelude.{◌≡◌, ◌<◌, ◌^◌, ◌++◌, All, IfOk, OnOk, length};
 ghost use Rattle.gen_types.specs.Spelled.{Spells};
-ghost use Rattle.gen_node.specs.declared.spelling_fault.SpellingFault.TheVariants.{Memory, TooLong};
 ghost use Rattle.gen_node.specs.Frame.{IsFrame, IsFront, IsParcel, frame_spelling, parcel_spelling};
 
 use crate::frame_reading::FRAME_MARK;
 use crate::frames::FrameFront;
-use crate::spelling_fault::SpellingFault;
 use gen_script::Parcel;
 use std::alloc::{AllocError, Global};
 
@@ -14,15 +12,6 @@ use std::alloc::{AllocError, Global};
 fn parts_fit(run_id: [u8; 32], round: u8, from: u8, to: u8)
     ensures { IsFront (record { run_id = run_id; round = round; from = from; to = to }) }
 {}
-
-/// Whether each parcel's length fits into its four bytes.
-fn are_short(parcels: &[Parcel]) -> bool
-    ensures { IsTrue result ↔ All IsParcel parcels.now }
-{
-    parcels
-        .iter()
-        .all(|parcel| u32::try_from(parcel.bytes().len()).is_ok())
-}
 
 /// Appends a parcel's length in four bytes, big-endian, and the parcel.
 fn put_parcel(out: &mut Vec<u8>, parcel: &Parcel) -> Result<(), AllocError>
@@ -58,26 +47,4 @@ pub(crate) fn spelled(
         put_parcel(&mut out, parcel)?;
     }
     Ok(out)
-}
-
-/// Returns the one spelling of a frame with these parcels, as `read_frame` reads it.
-///
-/// # Errors
-///
-/// TooLong if and only if there are 2^16 parcels or more, or one has 2^32 bytes or more, for such a frame has no
-/// spelling. Memory if memory is refused.
-pub fn frame_bytes(
-    alloc: Global,
-    front: &FrameFront,
-    parcels: &[Parcel],
-) -> Result<Vec<u8>, SpellingFault>
-    ensures ok { IfOk result (λ bytes. Spells IsFrame frame_spelling bytes.items
-        (record { front = front.now; parcels = parcels.now })) }
-    ensures long { result ≡ Err TooLong → IsFrame (record { front = front.now; parcels = parcels.now }) → ⊥ }
-    ensures memory { result ≡ Err Memory → IsFrame (record { front = front.now; parcels = parcels.now }) }
-{
-    if u16::try_from(parcels.len()).is_err() || !are_short(parcels) {
-        return Err(SpellingFault::TooLong);
-    }
-    Ok(spelled(alloc, front, parcels)?)
 }

@@ -17,6 +17,15 @@ pub struct FrameFront {
     pub to: u8,
 }
 
+/// The head of a frame, which is all of it but the parcels.
+#[derive(Clone, Copy, Debug, PartialEq, Eq)]
+pub struct FrameHead {
+    /// The front of the frame.
+    pub front: FrameFront,
+    /// How many parcels follow.
+    pub parcel_count: u16,
+}
+
 /// What one general sends a neighbour in one round: parcels of bytes, perhaps none. A contract sees the front of the
 /// frame and the list of parcels.
 #[derive(Debug, Drop)]

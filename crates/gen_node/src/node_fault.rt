@@ -15,8 +15,8 @@ pub enum NodeFault {
     /// the network's, or a lieutenant with an order.
     #[error("not a general of this header")]
     NoGeneral,
-    /// The ring does not have the height of the header's version.
-    #[error("a ring of another height")]
+    /// The tree of the keys does not have the height of the header's version.
+    #[error("keys of another height")]
     OtherHeight,
     /// The root of the general's keys is not the root that the header has for it.
     #[error("another root")]

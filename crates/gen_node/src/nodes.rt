@@ -7,7 +7,7 @@ ghost use Rattle.gen_types.specs.Spelled.{Spells};
 ghost use Rattle.gen_net.specs.Header.{height_of};
 ghost use Rattle.gen_general.specs.Participant.{IsUnused};
 ghost use Rattle.gen_general.specs.Recording.{RingSealed, log_written};
-ghost use Rattle.gen_node.specs.declared.node_fault.NodeFault.TheVariants.{Memory, OtherHeight};
+ghost use Rattle.gen_node.specs.declared.node_fault.NodeFault.TheVariants.{Memory};
 ghost use Rattle.gen_node.specs.declared.stages.Stage.TheVariants.{Hearing, Sending};
 ghost use Rattle.gen_node.specs.Frame.{IsFrame, frame_spelling};
 ghost use Rattle.gen_node.specs.Longest.{IsInBounds};
@@ -27,7 +27,7 @@ use crate::stages::Stage;
 use gen_general::Recorder;
 use gen_net::Header;
 use gen_scenario::Part;
-use gen_tree::KeyRing;
+use gen_tree::{KeyRing, KeyTree};
 use gen_types::{GeneralNo, OrderNo, ReadError, check};
 use std::alloc::{AllocError, Global};
 use std::marker::Model;
@@ -66,28 +66,27 @@ fn same_bytes(left: &[u8], right: &[u8]) -> bool
 }
 
 impl Node {
-    /// Returns the node of a general of the header's run before the first round, with the keys of this seed and, for
-    /// the commander, its order. Nobody else must know the seed. No other ring of this seed and height may be open, and
-    /// none may have been used in this run or slot.
+    /// Returns the node of a general of the header's run before the first round, with the keys of this tree and, for
+    /// the commander, its order. Nobody else must know the seed of the tree. No other ring of this seed and height may
+    /// have been used in this run or slot.
     ///
     /// # Errors
     ///
-    /// The first that holds. NoGeneral: the number is none of the header's generals, or the order doesn't fit it.
-    /// OtherRoot: the root of the seed's keys is not the one that the header has for the general. Memory: memory is
-    /// refused.
+    /// The first that holds. OtherHeight: the tree does not have the height of the header's version. NoGeneral: the
+    /// number is none of the header's generals, or the order doesn't fit it. OtherRoot: the root of the tree is not the
+    /// one that the header has for the general. Memory: memory is refused.
     pub fn new(
         alloc: Global,
         header: Header,
         me: GeneralNo,
-        seed: &[u8; 32],
+        tree: &KeyTree,
         own: Option<OrderNo>,
     ) -> Result<Node, NodeFault>
-        ensures ok { IfOk result (λ node. node ≡ node_at_start header me own (fresh_ring header seed.now)) }
-        ensures fits { IfOk result (λ _. MayBeNode header me own (fresh_ring header seed.now)) }
-        ensures err { IfErr result (IsRefused header me own (fresh_ring header seed.now)) }
-        ensures height { result ≡ Err OtherHeight → ⊥ }
+        ensures ok { IfOk result (λ node. node ≡ node_at_start header me own (fresh_ring tree.now)) }
+        ensures fits { IfOk result (λ _. MayBeNode header me own (fresh_ring tree.now)) }
+        ensures err { IfErr result (IsRefused header me own (fresh_ring tree.now)) }
     {
-        let ring = KeyRing::from_seed(alloc, seed, header.height())?;
+        let ring = KeyRing::open(tree)?;
         match Node::with_ring(alloc, header, me, ring, own) {
             Ok(node) => Ok(node),
             Err((fault, ring)) => {
@@ -102,8 +101,7 @@ impl Node {
     ///
     /// # Errors
     ///
-    /// The ring, and the first fault that holds: OtherHeight if the ring does not have the height of the header's
-    /// version, and then those of `new`.
+    /// The ring, and the first fault of those of `new` that holds.
     pub fn with_ring(
         alloc: Global,
         header: Header,

@@ -1,5 +1,6 @@
 pub mod Cuts
 pub mod Distances
+pub mod FirstParted
 pub mod Graphs
 pub mod Joined
 pub mod MostNeighbours

@@ -5,12 +5,14 @@
 mod graph;
 pub mod laws;
 mod longest;
+mod parting;
 mod plans;
 mod roots;
 mod search;
 mod sizes;
 
 pub use longest::frame_most;
+pub use parting::parted_pair;
 pub use plans::{PlanFailure, PlanResult, plan_of};
 pub use roots::{equal_roots, first_equal_roots};
 pub use sizes::{RunSizes, sizes_of};

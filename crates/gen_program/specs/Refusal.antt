@@ -1,14 +1,14 @@
 -- How the program answers words that ask for no job.
-use Rattle.std.specs.Prelude.{◌≡◌, ℕ, ◌⊎◌, List, ◌++◌, codes}
+use Rattle.std.specs.Prelude.{◌≡◌, ℕ, ◌⊎◌}
 use Rattle.clap.specs.declared.error.Error.{Error}
 use Rattle.clap.specs.declared.error.kind.ErrorKind.TheVariants.{DisplayHelp, DisplayVersion}
 use Rattle.clap.specs.Words.{kind_of}
 use Rattle.gen_jobs.specs.declared.ends.JobEnd.{JobEnd}
 use Rattle.gen_jobs.specs.declared.ends.JobEnd.TheVariants.{Done, Failed}
 use Rattle.gen_jobs.specs.declared.ends.JobFault.TheVariants as faults
-use Rattle.gen_program.specs.declared.words.WordsFault.{WordsFault}
-use Rattle.gen_program.specs.declared.words.WordsFault.TheVariants.{Memory, NotText, NoCommand, Words}
-use Rattle.gen_program.specs.declared.words.WordsFault.TheVariants.{BadCapacity, BadWorkers, BadGeneral, BadSlot, BadRun, BadFaulty, BadLog, TwoStandard}
+use Rattle.gen_words.specs.declared.words.WordsFault.{WordsFault}
+use Rattle.gen_words.specs.declared.words.WordsFault.TheVariants.{Memory, NotText, NoCommand, Words}
+use Rattle.gen_words.specs.declared.words.WordsFault.TheVariants.{BadCapacity, BadWorkers, BadGeneral, BadSlot, BadRun, BadFaulty, BadLog, TwoStandard}
 use Rattle.gen_jobs.specs.Ends.{status_of}
 
 -- the exit status for words that ask for no job
@@ -45,7 +45,3 @@ Refuses TwoStandard status = IsBlamed status
 Refuses BadRun status = IsBlamed status
 Refuses BadFaulty status = IsBlamed status
 Refuses (Words e) status = (AsksToShow e → IsShown status) × ((AsksToShow e → ⊥) → IsBlamed status)
-
--- The line ends by saying how to ask for help.
-abbrev pub PointsAtHelp : List ℕ → Type 0
-PointsAtHelp line = (front : List ℕ) × (line ≡ front ++ codes "; for more, try '--help'")

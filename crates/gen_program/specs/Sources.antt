@@ -1,7 +1,7 @@
 -- Where an input comes from, and which jobs write bytes.
 use Rattle.std.specs.Prelude.{◌≡◌, ℕ, Bool, true, false, List, codes, Option, Some, None}
-use Rattle.gen_jobs.specs.declared.jobs.Job.{Job}
-use Rattle.gen_jobs.specs.declared.jobs.Job.TheVariants as jobs
+use Rattle.gen_asked.specs.declared.jobs.Job.{Job}
+use Rattle.gen_asked.specs.declared.jobs.Job.TheVariants as jobs
 use Rattle.gen_program.specs.declared.sources.Source.{Source}
 use Rattle.gen_program.specs.declared.sources.Source.TheVariants.{Standard, Named}
 

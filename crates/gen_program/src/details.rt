@@ -3,7 +3,8 @@ ghost use Rattle.std.specs.Prelude.{codes};
 ghost use Rattle.gen_program.specs.Kinds.{IsDetail, IsRefused, TellsRead, TellsWrite};
 
 use crate::kinds::other_kind;
-use gen_jobs::{InputKind, Job, JobFault};
+use gen_asked::Job;
+use gen_jobs::{InputKind, JobFault};
 use std::fmt::{Display, Formatter};
 use std::{fmt, io};
 

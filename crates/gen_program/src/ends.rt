@@ -6,7 +6,8 @@ ghost use Rattle.gen_jobs.specs.declared.ends.JobEnd.{JobEnd};
 use crate::details::{Detail, Seen, detail_of};
 use crate::kinds::answers_in_json;
 use crate::reading::Failure;
-use gen_jobs::{Job, JobEnd, JobFault, Output, input_kind, job_fault_json, write_output};
+use gen_asked::Job;
+use gen_jobs::{JobEnd, JobFault, Output, deliver, input_kind, job_fault_json};
 use std::io;
 
 /// Writes the line of a job's fault to standard error, if the job failed, and what is told of it behind the line. Returns
@@ -31,7 +32,7 @@ fn write_fault<R: AllocGlobal + Print>(rt: &R, fault: JobFault, name: Option<&st
             text,
             negative: false,
         };
-        let _ = write_output(&mut io::writer(rt), &output);
+        let _ = deliver(&mut io::writer(rt), Ok(output));
     }
 }
 

@@ -1,16 +1,68 @@
-//! Jobs that print the ids of their runs.
-ghost use Rattle.gen_jobs.specs.Ranges.{IsInRange};
+//! Jobs that say something of their output on standard error.
+ghost use Rattle.gen_asked.specs.Ranges.{IsInRange};
 
-use gen_jobs::{Job, JobEnd, JobFault, Output, do_job, name_file, write_output};
+use gen_asked::Job;
+use gen_jobs::{JobEnd, JobFault, Output, answer_in_place, deliver, do_job, name_file};
+use gen_net::Version;
+use std::alloc::{AllocError, Global};
 use std::io::{Read, Write};
 use std::sync::Wait;
 use std::thread::Threads;
 
-/// Does a job, and says on standard error of which runs its output is, if there is one: their ids, with commas between
-/// them. The output is kept in memory until it is whole.
-pub(crate) fn do_and_name<R: AllocGlobal + Eprint + Threads + Wait + Sync, S: Read, W: Write>(
+/// So many lines of a plan that fails say why: that it fails, the generals without whom it does, and the pair.
+const WHY: usize = 3;
+
+/// Appends a line that says why the plan of a header fails, if it does.
+fn push_plan(alloc: Global, lines: &mut String, header: &[u8]) -> Result<(), AllocError> {
+    let plan = Job::Plan {
+        version: Version::One,
+    };
+    let Ok(told) = answer_in_place(alloc, plan, None, header) else {
+        return Err(AllocError);
+    };
+    if let (true, Ok(text)) = (told.negative, str::from_utf8(&told.text)) {
+        for part in text.lines().take(WHY) {
+            write!(lines, "{part}, ")?;
+        }
+        lines.push_str("see sm_tool plan\n")?;
+    }
+    Ok(())
+}
+
+/// Appends a line with the ids of the runs of a job's output, with commas between them, if it is of runs.
+fn push_runs(alloc: Global, lines: &mut String, output: &[u8]) -> Result<(), AllocError> {
+    if let Some(names) = name_file(alloc, output)? {
+        if let Ok(names) = str::from_utf8(&names) {
+            write!(lines, "{names}\n")?;
+        }
+    }
+    Ok(())
+}
+
+/// Returns the lines that are said of the output of a job: of which runs it is, if that is asked for, and of a header why
+/// its plan fails.
+fn lines_of(
+    alloc: Global,
+    job: &Job,
+    names_runs: bool,
+    output: &[u8],
+) -> Result<String, AllocError> {
+    let mut lines = String::new(alloc);
+    if names_runs {
+        push_runs(alloc, &mut lines, output)?;
+    }
+    if matches!(job, Job::Header { version: _ }) {
+        push_plan(alloc, &mut lines, output)?;
+    }
+    Ok(lines)
+}
+
+/// Does a job, and says on standard error of which runs its output is, if that is asked for, and of a header why its plan
+/// fails. The output is kept in memory until it is whole.
+pub(crate) fn do_and_tell<R: AllocGlobal + Eprint + Threads + Wait + Sync, S: Read, W: Write>(
     rt: &R,
     job: &Job,
+    names_runs: bool,
     reader: &mut S,
     writer: &mut W,
 ) -> JobEnd
@@ -23,18 +75,16 @@ pub(crate) fn do_and_name<R: AllocGlobal + Eprint + Threads + Wait + Sync, S: Re
         JobEnd::Failed(JobFault::Write) => return JobEnd::Failed(JobFault::Memory),
         end => return end,
     }
-    let Ok(names) = name_file(rt.alloc(), &text) else {
+    let Ok(lines) = lines_of(rt.alloc(), job, names_runs, &text) else {
         return JobEnd::Failed(JobFault::Memory);
     };
     let output = Output {
         text,
         negative: false,
     };
-    let end = write_output(writer, &output);
-    if let (JobEnd::Done, Some(names)) = (end, &names) {
-        if let Ok(line) = str::from_utf8(names) {
-            let _ = eprintln!(rt; "{line}");
-        }
+    let end = deliver(writer, Ok(output));
+    if end == JobEnd::Done && !lines.is_empty() {
+        let _ = eprint!(rt; "{lines}");
     }
     end
 }

@@ -1,24 +1,25 @@
 //! The program: from its words to its exit status.
 ghost use Rattle.std.specs.Prelude.{◌≡◌, IfOk, map, string_bytes};
 ghost use Rattle.gen_jobs.specs.Ends.{status_of};
-ghost use Rattle.gen_jobs.specs.Ranges.{IsInRange};
+ghost use Rattle.gen_asked.specs.Ranges.{IsInRange};
 ghost use Rattle.gen_jobs.specs.declared.ends.JobEnd.{JobEnd};
-ghost use Rattle.gen_program.specs.Refusal.{IsStatus, PointsAtHelp, Refuses};
+ghost use Rattle.gen_program.specs.Refusal.{IsStatus, Refuses};
 ghost use Rattle.gen_program.specs.Sources.{writes_bytes};
 
-use crate::blaming::{given_value, parts_of, show_usage};
 use crate::built::Built;
 use crate::details::{Detail, STANDARD_INPUT, Seen};
 use crate::ends::{end_with, end_written, fail_with, finish_seen, finish_unopened};
-use crate::naming::do_and_name;
+use crate::naming::do_and_tell;
 use crate::reading::{answer_files, join_files, tell_waiting};
-use crate::several::{Several, read_several};
 use crate::sources::{Source, source_of};
 use crate::terminals::Terminals;
 use crate::watching::{WatchedReader, WatchedWriter};
-use crate::words::{WordsFault, read_request};
 use clap::error::ErrorKind;
-use gen_jobs::{Job, JobEnd, JobFault, Telling, deliver, deliver_bundle, do_job};
+use gen_asked::{Job, Telling};
+use gen_jobs::{JobEnd, JobFault, deliver, deliver_bundle, do_job};
+use gen_words::{
+    Several, WordsFault, fault_line, given_value, read_request, read_several, show_usage,
+};
 use std::alloc::{AllocError, Global};
 use std::fs::File;
 use std::io::Read;
@@ -202,8 +203,8 @@ fn finish_over<R: AllocGlobal + Print + Eprint + Threads + Wait + Sync, S: Read>
     let mut output = io::writer(rt);
     let mut reader = WatchedReader::new(reader);
     let mut writer = WatchedWriter::new(&mut output);
-    let end = if prints_runs {
-        do_and_name(rt, job, &mut reader, &mut writer)
+    let end = if prints_runs || matches!(job, Job::Header { version: _ }) {
+        do_and_tell(rt, job, prints_runs, &mut reader, &mut writer)
     } else {
         do_job(rt, rt.alloc(), *job, name, &mut reader, &mut writer)
     };
@@ -257,22 +258,4 @@ fn refuse<R: AllocGlobal + Print + Eprint>(
             Err(_) => end_with(rt, JobEnd::Failed(JobFault::Memory), None),
         },
     }
-}
-
-/// Returns one line that says what is wrong with the words, with the value that is bad, if there is one, and at its end
-/// how to ask for help.
-pub fn fault_line(
-    alloc: Global,
-    fault: &WordsFault,
-    value: Option<String>,
-) -> Result<String, AllocError>
-    ensures { IfOk result (λ line. PointsAtHelp (string_bytes line)) }
-{
-    let text = fault.to_string(alloc)?;
-    let mut first = parts_of(alloc, text.as_str())?;
-    if let Some(value) = value {
-        write!(first, ", and not '{value}'")?;
-    }
-    let first = first.as_str();
-    format!(in alloc; "{first}; for more, try '--help'")
 }

@@ -9,7 +9,7 @@ use crate::watching::WatchedReader;
 use gen_audit::BundleFault;
 use gen_campaign::CampaignFault;
 use gen_jobs::{
-    BundleText, InputKind, JobFault, Output, answer, input_kind, join_in_pieces, read_all,
+    BundleText, InputKind, JobFault, Output, answer_evidence, input_kind, join_in_pieces, read_all,
 };
 use gen_local::Exhibit;
 use gen_types::{GeneralNo, GeneralSet};
@@ -157,7 +157,7 @@ pub(crate) fn answer_files<'a, R: Files + Terminals + AllocGlobal + Input + Epri
 ) -> Result<Output, Failure<'a>> {
     let first = read_file(rt, evidence)?;
     let second = read_file(rt, log)?;
-    match answer(rt.alloc(), &first, &second) {
+    match answer_evidence(rt.alloc(), &first, &second) {
         Ok(output) => Ok(output),
         Err(fault) => match fault {
             JobFault::Evidence(_) => {

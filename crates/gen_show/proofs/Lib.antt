@@ -1,7 +1,3 @@
-pub mod BundleLengths
-pub mod CampaignLengths
 mod Chains
-pub mod EvidenceLengths
 mod Found
-pub mod Lengths
 pub mod Offsets

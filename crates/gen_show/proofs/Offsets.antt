@@ -9,9 +9,10 @@ use Rattle.std.proofs.lemmas.List.Sums.{sum_by-cons}
 use Rattle.gen_log.specs.declared.entries.Entry.{Entry}
 use Rattle.gen_log.specs.Entry.{entry_spelling, entry_length}
 use Rattle.gen_log.specs.Log.{log_spelling}
-use Rattle.gen_show.specs.LogText.{entry_line, entry_lines, log_front_length}
+use Rattle.gen_file.specs.Parts.{log_front_length}
+use Rattle.gen_file.proofs.Lengths.{length_entries}
+use Rattle.gen_show.specs.LogText.{entry_line, entry_lines}
 use Rattle.gen_show.specs.Offsets.{IsShownAt, OffsetsAreRight, StandsAt}
-use Rattle.gen_show.proofs.Lengths.{length_entries}
 
 -- the lines of entries have that of each, with where the entries before it end
 lines_have : (k n at : ℕ) (before : List Entry) (e : Entry) (after : List Entry)

@@ -1,13 +1,11 @@
 -- A bundle as lines, and the bundles of runs.
-use Rattle.std.specs.Prelude.{ℕ, ◌+◌, List, [], ◌∷◌, ◌++◌, codes, length, sum_by}
+use Rattle.std.specs.Prelude.{ℕ, ◌+◌, List, [], ◌∷◌, ◌++◌, codes}
 use Rattle.std.specs.List.{flat_map}
 use Rattle.std.specs.Fmt.{decimal}
-use Rattle.gen_net.specs.Front.{front_spelling}
 use Rattle.gen_net.specs.Header.{RunHeader}
-use Rattle.gen_log.specs.Fields.{set_spelling}
 use Rattle.gen_log.specs.Writing.{LogBytes}
 use Rattle.gen_audit.specs.Bundle.{Bundle}
-use Rattle.gen_audit.specs.BundleSpelling.{bundle_marks, walks_spelling}
+use Rattle.gen_file.specs.Parts.{bundle_front_length, bundle_length, exhibit_front_length, exhibit_length}
 use Rattle.gen_show.specs.HeaderText.{header_lines}
 use Rattle.gen_show.specs.LogText.{log_lines}
 use Rattle.gen_show.specs.Words.{listed}
@@ -19,31 +17,11 @@ faulty_line faulty = codes "faulty " ++ listed faulty ++ codes "\n"
 abbrev pub walk_line : List ℕ → List ℕ
 walk_line walk = codes "walk " ++ listed walk ++ codes "\n"
 
--- the number of bytes before the log of an exhibit, and the number of bytes of an exhibit
-abbrev pub exhibit_front_length : ℕ
-exhibit_front_length = 5
-
-abbrev pub exhibit_length : LogBytes → ℕ
-exhibit_length x = exhibit_front_length + length x.bytes
-
 -- the lines of exhibits that stand one behind another, from this byte on
 abbrev pub exhibit_lines : RunHeader → ℕ → List LogBytes → List ℕ
 exhibit_lines h at [] = []
 exhibit_lines h at (x ∷ xs) =
     log_lines h x.general (at + exhibit_front_length) x.bytes ++ exhibit_lines h (at + exhibit_length x) xs
-
--- the bytes of a bundle before its exhibits, and their number
-abbrev pub bundle_front : Bundle → List ℕ
-bundle_front b =
-    front_spelling bundle_marks b.header
-    ++ (set_spelling b.faulty ++ (walks_spelling b.walks ++ length b.exhibits ∷ []))
-
-unfoldable pub bundle_front_length : Bundle → ℕ
-bundle_front_length b = length (bundle_front b)
-
--- the number of bytes of a bundle
-abbrev pub bundle_length : Bundle → ℕ
-bundle_length b = bundle_front_length b + sum_by exhibit_length b.exhibits
 
 -- the lines of a bundle that begins at this byte: its header, the generals that are held for faulty, the
 -- walks and the exhibits

@@ -1,13 +1,10 @@
 -- What is shown of a campaign, as lines.
-use Rattle.std.specs.Prelude.{ℕ, ◌+◌, ◌<◌, ◌^◌, Bool, true, false, List, [], ◌∷◌, ◌++◌, codes, length, sum_by, if◌then◌else◌}
+use Rattle.std.specs.Prelude.{ℕ, List, [], ◌∷◌, ◌++◌, codes, length, if◌then◌else◌}
 use Rattle.std.specs.Fmt.{decimal}
 use Rattle.gen_audit.specs.Bundle.{Bundle}
 use Rattle.gen_campaign.specs.Campaign.{CampaignBundle}
-use Rattle.gen_show.specs.BundleText.{bundle_length, bundle_lines, run_lines}
-
--- the number of bytes before the first bundle of several runs
-abbrev pub campaign_front_length : ℕ
-campaign_front_length = 5
+use Rattle.gen_campaign.specs.CampaignParts.{campaign_front_length}
+use Rattle.gen_show.specs.BundleText.{bundle_lines, run_lines}
 
 -- the first line of several runs: the name of the format, its version, and the number of runs
 unfoldable pub campaign_line : ℕ → List ℕ
@@ -22,11 +19,6 @@ several_lines bundles =
 abbrev pub alone_lines : List Bundle → List ℕ
 alone_lines [] = []
 alone_lines (b ∷ bs) = bundle_lines 0 b
-
--- the bundles end before byte 2^64
-abbrev pub HaveRoom : Bool → List Bundle → Type 0
-HaveRoom true bundles = sum_by bundle_length bundles < 2 ^ 64
-HaveRoom false bundles = campaign_front_length + sum_by bundle_length bundles < 2 ^ 64
 
 -- the lines of what is shown of a campaign
 abbrev pub campaign_lines : CampaignBundle → List ℕ

@@ -1,12 +1,13 @@
 -- Evidence as lines.
-use Rattle.std.specs.Prelude.{ℕ, ◌+◌, ◌<◌, ◌^◌, Bool, true, false, List, [], ◌∷◌, ◌++◌, codes, length}
+use Rattle.std.specs.Prelude.{ℕ, Bool, true, false, List, [], ◌∷◌, ◌++◌, codes}
 use Rattle.std.specs.Fmt.{decimal}
 use Rattle.hex.specs.Hex.{encode_lower}
-use Rattle.gen_net.specs.Header.{RunHeader, header_spelling, root_of}
+use Rattle.gen_net.specs.Header.{RunHeader, root_of}
 use Rattle.gen_local.specs.declared.texts.Text.{Text}
 use Rattle.gen_local.specs.declared.texts.Text.TheVariants.{OfStatement, OfHead}
 use Rattle.gen_convict.specs.Contradictions.{Claim, TwoTexts, TwoOrders, MissingFromLog, DepartingLog, AcrossRuns}
 use Rattle.gen_convict.specs.EvidenceSpelling.{HeaderAndEvidence}
+use Rattle.gen_file.specs.Parts.{claim_log_at}
 use Rattle.gen_show.specs.HeaderText.{header_lines}
 use Rattle.gen_show.specs.LogText.{log_lines, signed_said}
 
@@ -23,11 +24,6 @@ text_line name (OfHead head) =
 -- the line of an order that the commander alone signed
 unfoldable pub order_line : List ℕ → ℕ → List ℕ
 order_line name order = text_line name (OfStatement (record { order = order; path = 0 ∷ [] }))
-
--- the byte at which the log of a claim begins: behind the mark, the header, the accused, the kind, and the
--- length of the log in four bytes
-abbrev pub claim_log_at : RunHeader → ℕ
-claim_log_at h = length (header_spelling h) + 10
 
 -- the line of the accused, with the root of the accused
 unfoldable pub accused_line : RunHeader → ℕ → List ℕ
@@ -58,14 +54,6 @@ claim_lines h accused (DepartingLog bytes p) =
 claim_lines h accused (AcrossRuns x y) =
     text_line (codes "first") x.text.text ++ header_lines (codes "header") y.header
     ++ text_line (codes "second") y.text.text
-
--- the log of a claim, if it has one, ends before byte 2^64
-abbrev pub HasRoom : RunHeader → Claim → Type 0
-HasRoom h (TwoTexts x y) = Unit {0}
-HasRoom h (TwoOrders v a w b) = Unit {0}
-HasRoom h (MissingFromLog bytes s signature) = claim_log_at h + length bytes < 2 ^ 64
-HasRoom h (DepartingLog bytes p) = claim_log_at h + length bytes < 2 ^ 64
-HasRoom h (AcrossRuns x y) = Unit {0}
 
 -- the line that says whether the evidence holds, and the end
 abbrev pub holds_lines : Bool → List ℕ

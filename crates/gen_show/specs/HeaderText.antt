@@ -6,15 +6,9 @@ use Rattle.hex.specs.Hex.{encode_lower}
 use Rattle.gen_types.specs.ChoiceOf.{choice_number}
 use Rattle.gen_net.specs.Network.{Network}
 use Rattle.gen_net.specs.Header.{RunHeader, run_id_of}
-use Rattle.gen_net.specs.Version.{slot_in, version_one, version_two}
-use Rattle.gen_net.specs.declared.version.Version.{Version}
-use Rattle.gen_net.specs.declared.version.Version.TheVariants.{One, Two}
+use Rattle.gen_net.specs.Version.{slot_in}
 use Rattle.gen_plan.specs.EqualRoots.{equal_roots}
-
--- the number of a version
-abbrev pub version_number : Version → ℕ
-version_number One = version_one
-version_number (Two slot) = version_two
+use Rattle.gen_file.specs.Kinds.{version_number}
 
 -- the lines of the name of the format, with its version and the slot of the run, and of the run id
 unfoldable pub format_lines : List ℕ → RunHeader → List ℕ

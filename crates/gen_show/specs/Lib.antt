@@ -1,8 +1,6 @@
 pub mod BundleText
 pub mod CampaignText
 pub mod EvidenceText
-pub mod FaultText
-pub mod FileFaultText
 pub mod HeaderText
 pub mod LogText
 pub mod Offsets

@@ -10,7 +10,8 @@ use Rattle.gen_log.specs.declared.fault.LogFault.{LogFault}
 use Rattle.gen_log.specs.Entry.{entry_length}
 use Rattle.gen_log.specs.Log.{RunLog}
 use Rattle.gen_log.specs.LogReading.{log_of}
-use Rattle.gen_show.specs.FaultText.{log_fault_name}
+use Rattle.gen_file.specs.FaultText.{log_fault_name}
+use Rattle.gen_file.specs.Parts.{log_front_length}
 use Rattle.gen_show.specs.Words.{listed}
 
 -- an order of one's own, or a minus
@@ -53,10 +54,6 @@ abbrev pub entry_lines : ℕ → ℕ → ℕ → List Entry → List ℕ
 entry_lines keeper number at [] = []
 entry_lines keeper number at (e ∷ es) =
     entry_line keeper number at e ++ entry_lines keeper (number + 1) (at + entry_length e) es
-
--- the number of bytes before the entries of a log
-abbrev pub log_front_length : ℕ
-log_front_length = 40
 
 -- the first line of what is shown as a log: the general, the byte at which it begins, and its length
 unfoldable pub log_line : ℕ → ℕ → ℕ → List ℕ

@@ -3,7 +3,8 @@ use Rattle.std.specs.Prelude.{ℕ, ◌≡◌, ◌+◌, List, ◌∷◌, ◌++◌
 use Rattle.gen_log.specs.declared.entries.Entry.{Entry}
 use Rattle.gen_log.specs.Entry.{entry_spelling}
 use Rattle.gen_log.specs.Log.{RunLog, log_spelling, run_id_length}
-use Rattle.gen_show.specs.LogText.{entry_line, entry_lines, log_front_length}
+use Rattle.gen_file.specs.Parts.{log_front_length}
+use Rattle.gen_show.specs.LogText.{entry_line, entry_lines}
 
 -- the part stands in the file from this byte on
 pub record StandsAt (file : List ℕ) (at : ℕ) (part : List ℕ) : Type 0 where

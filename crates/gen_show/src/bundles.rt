@@ -1,25 +1,16 @@
 //! Bundles as lines.
 ghost use Rattle.std.specs.Prelude.{◌≡◌, ◌+◌, ◌<◌, ◌^◌, ◌++◌, IfOk, OnOk, string_bytes, sum_by};
-ghost use Rattle.gen_show.specs.BundleText.{bundle_front_length, bundle_length, bundle_lines, exhibit_length, exhibit_lines, run_lines};
+ghost use Rattle.gen_file.specs.Parts.{bundle_length, exhibit_length};
+ghost use Rattle.gen_show.specs.BundleText.{bundle_lines, exhibit_lines, run_lines};
 
 use crate::headers::push_header;
 use crate::logs::push_log;
 use crate::words::{push_generals, push_members};
-use gen_audit::{Bundle, bundle_front};
+use gen_audit::Bundle;
+use gen_file::{EXHIBIT_FRONT, bundle_front_length, exhibit_bytes};
 use gen_local::Exhibit;
 use gen_net::Header;
 use std::alloc::{AllocError, Global};
-
-/// The bytes before the log of an exhibit.
-pub const EXHIBIT_FRONT: usize = 5;
-
-/// Returns the number of bytes of an exhibit.
-pub fn exhibit_bytes(exhibit: &Exhibit) -> usize
-    requires { exhibit_length exhibit.now < 2 ^ 64 }
-    ensures { result ≡ exhibit_length exhibit.now }
-{
-    EXHIBIT_FRONT + exhibit.log().len()
-}
 
 /// Appends the lines of exhibits, of which the first begins at this byte. Returns the byte at which they end.
 fn push_exhibits(
@@ -43,19 +34,6 @@ fn push_exhibits(
         at += exhibit_bytes(exhibit);
     }
     Ok(at)
-}
-
-/// Returns how many bytes of a bundle stand before its exhibits.
-///
-/// # Errors
-///
-/// `AllocError` if memory is refused.
-#[tactic(auto, unfolding(crate::specs::BundleText::bundle_front_length), using(crate::proofs::BundleLengths::front_has))]
-pub fn bundle_front_length(alloc: Global, bundle: &Bundle) -> Result<usize, AllocError>
-    ensures { IfOk result (λ count. count ≡ bundle_front_length bundle.now) }
-{
-    let front = bundle_front(alloc, bundle)?;
-    Ok(front.len())
 }
 
 /// Appends the lines of a bundle that begins at this byte of a file. Returns the byte at which it ends.

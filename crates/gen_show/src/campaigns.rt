@@ -1,13 +1,11 @@
 //! What is shown of a campaign, as lines.
 ghost use Rattle.std.specs.Prelude.{◌≡◌, ◌++◌, OnOk, string_bytes};
-ghost use Rattle.gen_show.specs.CampaignText.{HaveRoom, campaign_lines};
+ghost use Rattle.gen_campaign.specs.CampaignParts.{HaveRoom};
+ghost use Rattle.gen_show.specs.CampaignText.{campaign_lines};
 
 use crate::bundles::{push_bundle, push_runs};
-use gen_campaign::CampaignBundle;
+use gen_campaign::{CAMPAIGN_FRONT, CampaignBundle};
 use std::alloc::{AllocError, Global};
-
-/// The bytes before the first bundle of several runs.
-pub const CAMPAIGN_FRONT: usize = 5;
 
 /// Appends the lines of what is shown of a campaign: of a bundle that stands alone, or of several runs.
 #[tactic(auto, unfolding(crate::specs::CampaignText::campaign_line))]

@@ -1,21 +1,20 @@
 //! Evidence as lines.
-ghost use Rattle.std.specs.Prelude.{◌≡◌, ◌<◌, ◌+◌, ◌^◌, ◌++◌, IfOk, OnOk, length, string_bytes};
+ghost use Rattle.std.specs.Prelude.{◌≡◌, ◌<◌, ◌++◌, OnOk, string_bytes};
 ghost use Rattle.gen_convict.specs.Evidence.{told_of};
 ghost use Rattle.gen_convict.specs.Told.{told};
-ghost use Rattle.gen_show.specs.EvidenceText.{HasRoom, accused_line, claim_lines, claim_log_at, evidence_lines, kind_line, order_line, text_line};
+ghost use Rattle.gen_file.specs.Parts.{HasRoom};
+ghost use Rattle.gen_show.specs.EvidenceText.{accused_line, claim_lines, evidence_lines, kind_line, order_line, text_line};
 
 use crate::entries::push_signed;
 use crate::headers::push_header;
 use crate::logs::push_log;
 use gen_chain::Statement;
 use gen_convict::{Claim, Evidence};
+use gen_file::claim_log_at;
 use gen_local::Text;
-use gen_net::{Header, header_bytes};
+use gen_net::Header;
 use gen_types::{GeneralNo, OrderNo, Path};
 use std::alloc::{AllocError, Global};
-
-/// The bytes before the log of a claim, beside those of the header.
-const CLAIM_FRONT: usize = 10;
 
 /// Appends the line of a text.
 #[tactic(auto, unfolding(crate::specs::EvidenceText::text_line))]
@@ -52,21 +51,6 @@ fn push_order(alloc: Global, out: &mut String, name: &str, order: OrderNo) -> Re
         path: Path::commander(),
     });
     push_text(alloc, out, name, &text)
-}
-
-/// Returns the byte of evidence at which the log of its claim begins. The log ends before byte 2^64.
-///
-/// # Errors
-///
-/// `AllocError` if memory is refused.
-pub fn claim_log_at(alloc: Global, header: &Header, log: &[u8]) -> Result<usize, AllocError>
-    requires { claim_log_at header.now + length log.now < 2 ^ 64 }
-    ensures { IfOk result (λ at. at ≡ claim_log_at header.now) }
-{
-    // The log ends behind the byte that is returned.
-    let _count = log.len();
-    let front = header_bytes(alloc, header)?;
-    Ok(front.len() + CLAIM_FRONT)
 }
 
 /// Appends the line of the accused, a general of the network.

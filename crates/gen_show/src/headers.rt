@@ -1,22 +1,13 @@
 //! Headers as lines.
 ghost use Rattle.std.specs.Prelude.{◌≡◌, ◌++◌, OnOk, string_bytes};
 ghost use Rattle.std.specs.List.{flat_map};
-ghost use Rattle.gen_show.specs.HeaderText.{edge_line, equal_roots_line, equal_roots_lines, format_lines, header_lines, number_lines, root_lines, version_number};
+ghost use Rattle.gen_show.specs.HeaderText.{edge_line, equal_roots_line, equal_roots_lines, format_lines, header_lines, number_lines, root_lines};
 
-use gen_net::{Header, Net, VERSION_ONE, VERSION_TWO, Version};
+use gen_file::version_number;
+use gen_net::{Header, Net};
 use gen_plan::equal_roots;
 use gen_types::GeneralNo;
 use std::alloc::{AllocError, Global};
-
-/// Returns the number of a version.
-pub fn version_number(version: Version) -> u8
-    ensures { result ≡ version_number version }
-{
-    match version {
-        Version::One => VERSION_ONE,
-        Version::Two { .. } => VERSION_TWO,
-    }
-}
 
 /// Appends the lines of the name of a format, with the version and the slot of a run, and of the run id.
 #[tactic(auto, unfolding(crate::specs::HeaderText::format_lines))]

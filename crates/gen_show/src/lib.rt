@@ -3,9 +3,6 @@
 //! Each line says one fact, and its first word is the kind of the line. Where something stands in the file, the line has
 //! the byte at which it begins.
 //!
-//! The crate also offers the parts that another form of the same facts needs: the names of faults, and where the parts
-//! of a file stand.
-//!
 //! `explain` and `with_words` say in sentences what the lines and the codes mean that the program prints.
 //! Their table has a row for each fault, finding, kind of conviction, verdict and exit status, and for each line of a
 //! verdict's text. A row has a name, the form of a line, and a sentence. A capital letter that is a field of the form
@@ -24,31 +21,19 @@ mod campaigns;
 mod entries;
 mod evidence;
 mod explaining;
-mod faults;
-mod file_faults;
 mod forms;
 mod headers;
-mod kinds;
 pub mod laws;
 mod logs;
-mod marks;
 mod rows;
 mod showing;
 mod table;
 mod wording;
 mod words;
 
-pub use bundles::{EXHIBIT_FRONT, bundle_front_length, exhibit_bytes};
-pub use campaigns::CAMPAIGN_FRONT;
-pub use evidence::claim_log_at;
 pub use explaining::explain;
-pub use faults::{push_header_fault, push_log_fault};
-pub use file_faults::{push_campaign_fault, push_evidence_fault};
-pub use headers::{push_equal_roots, version_number};
-pub use kinds::FileKind;
-pub use logs::LOG_FRONT;
-pub use marks::{BUNDLE_MARKS, EVIDENCE_MARKS, file_kind};
-pub use showing::{Shown, front_length, show};
+pub use headers::push_equal_roots;
+pub use showing::show;
 pub use table::WORDS;
 pub use wording::with_words;
 pub use words::push_members;

@@ -4,14 +4,11 @@ ghost use Rattle.gen_log.specs.Texts.{IsTextOf};
 ghost use Rattle.gen_show.specs.LogText.{log_lines, reading_lines, says_line, unreadable_line};
 
 use crate::entries::push_entries;
-use crate::faults::push_log_fault;
+use gen_file::{LOG_FRONT, push_log_fault};
 use gen_log::{Log, LogFault, read_log};
 use gen_net::Header;
 use gen_types::{GeneralNo, ReadError};
 use std::alloc::{AllocError, Global};
-
-/// The bytes before the entries of a log.
-pub const LOG_FRONT: usize = 40;
 
 /// Appends the line of a log that reads.
 #[tactic(auto, unfolding(crate::specs::LogText::says_line))]
@@ -43,7 +40,7 @@ fn push_unreadable(out: &mut String, general: GeneralNo, fault: LogFault) -> Res
 }
 
 /// Appends the lines of a log that was read from these bytes, which begin at this byte of a file.
-#[tactic(auto, using(crate::proofs::Lengths::entries_within), unfolding(crate::specs::LogText::head_line))]
+#[tactic(auto, using(gen_file::proofs::Lengths::entries_within), unfolding(crate::specs::LogText::head_line))]
 fn push_read(
     alloc: Global,
     out: &mut String,

@@ -1,47 +1,36 @@
 //! What a file is, as lines of text.
-ghost use Rattle.std.specs.Prelude.{◌≡◌, ◌++◌, Err, IfOk, Ok, OnOk, length, string_bytes};
-ghost use Rattle.gen_net.specs.Front.{front_spelling};
+ghost use Rattle.std.specs.Prelude.{◌≡◌, ◌++◌, Err, IfOk, OnOk, string_bytes};
 ghost use Rattle.gen_net.specs.FrontReading.{front_at};
 ghost use Rattle.gen_convict.specs.Evidence.{told_of};
 ghost use Rattle.gen_convict.specs.EvidenceReading.{IsWhole};
 ghost use Rattle.gen_convict.specs.Told.{told};
-ghost use Rattle.gen_show.specs.CampaignText.{HaveRoom, campaign_lines};
-ghost use Rattle.gen_show.specs.EvidenceText.{HasRoom};
-ghost use Rattle.gen_show.specs.Showing.{IsEvidenceText, IsTextAs, TellsEvidence, campaign_reading_lines, file_kind, faulty_lines, front_end, front_lines, is_whole_as};
-ghost use Rattle.gen_show.specs.declared.kinds.FileKind.TheVariants as kinds;
+ghost use Rattle.gen_file.specs.Kinds.{file_kind};
+ghost use Rattle.gen_file.specs.Parts.{HasRoom, front_end};
+ghost use Rattle.gen_file.specs.declared.kinds.FileKind.TheVariants as kinds;
+ghost use Rattle.gen_campaign.specs.CampaignParts.{HaveRoom};
+ghost use Rattle.gen_campaign.specs.WholeFile.{is_whole_as};
+ghost use Rattle.gen_show.specs.CampaignText.{campaign_lines};
+ghost use Rattle.gen_show.specs.Showing.{IsEvidenceText, IsTextAs, TellsEvidence, campaign_reading_lines, fault_line, faulty_lines, front_lines};
 
 use crate::campaigns::push_campaign;
 use crate::evidence::push_evidence;
-use crate::faults::{push_fault, push_header_fault};
-use crate::file_faults::{push_campaign_fault, push_evidence_fault};
 use crate::headers::push_header;
-use crate::kinds::FileKind;
-use crate::marks::{BUNDLE_MARKS, EVIDENCE_MARKS, file_kind};
-use gen_campaign::{CampaignBundle, CampaignFault, read_campaign};
+use gen_campaign::{CampaignBundle, CampaignFault, push_campaign_fault, read_campaign};
 use gen_convict::{Evidence, EvidenceFault, check_evidence, read_evidence};
-use gen_net::{Header, Marks, front_bytes, read_front, read_header};
+use gen_file::{
+    BUNDLE_MARKS, EVIDENCE_MARKS, FileKind, Shown, file_kind, front_length, push_evidence_fault,
+    push_header_fault,
+};
+use gen_net::{Header, Marks, read_front, read_header};
 use gen_types::ReadError;
 use std::alloc::{AllocError, Global};
 
-/// What a file is, as lines of text, and whether its bytes spell a file of its kind.
-#[derive(Drop)]
-pub struct Shown {
-    /// The lines.
-    pub text: Vec<u8>,
-    /// Whether the bytes are a whole bundle, campaign, evidence or header.
-    pub whole: bool,
-}
-
-/// Returns the number of bytes of a mark and a header.
-///
-/// # Errors
-///
-/// `AllocError` if memory is refused.
-pub fn front_length(alloc: Global, marks: Marks, header: &Header) -> Result<usize, AllocError>
-    ensures { IfOk result (λ count. count ≡ length (front_spelling marks header.now)) }
+/// Appends the last line of what doesn't read.
+#[tactic(auto, unfolding(crate::specs::Showing::fault_line))]
+fn push_fault(out: &mut String, name: &str, at: usize) -> Result<(), AllocError>
+    ensures { OnOk result (string_bytes out.new ≡ string_bytes out.old ++ fault_line name.now at) }
 {
-    let front = front_bytes(alloc, marks, header)?;
-    Ok(front.len())
+    write!(out, "fault {name} byte {at}\n")
 }
 
 /// Appends the lines of the header with which a file begins, behind a mark, if one stands there. Returns the byte up
@@ -105,7 +94,7 @@ fn whole_campaign(alloc: Global, campaign: &CampaignBundle) -> Result<Vec<u8>, A
 }
 
 /// Returns the lines of what is read as shown of a campaign.
-#[tactic(auto, using(crate::proofs::CampaignLengths::campaign_has_room))]
+#[tactic(auto, using(gen_campaign::proofs::CampaignLengths::campaign_has_room))]
 fn show_campaign(alloc: Global, input: &[u8]) -> Result<Shown, AllocError>
     ensures text { IfOk result (λ s. IsTextAs kinds.OfCampaign input.now s.text.items) }
     ensures whole { IfOk result (λ s. s.whole ≡ is_whole_as kinds.OfCampaign input.now) }
@@ -152,7 +141,7 @@ fn whole_evidence(
 }
 
 /// Returns the lines of what is read as evidence.
-#[tactic(auto, using(crate::proofs::EvidenceLengths::has_room))]
+#[tactic(auto, using(gen_file::proofs::EvidenceLengths::has_room))]
 fn show_evidence(alloc: Global, input: &[u8]) -> Result<Shown, AllocError>
     ensures text { IfOk result (λ s. IsTextAs kinds.OfEvidence input.now s.text.items) }
     ensures whole { IfOk result (λ s. s.whole ≡ is_whole_as kinds.OfEvidence input.now) }

@@ -34,7 +34,7 @@ N6|N6 general G|In the log of general G, the signature of the head does not veri
 N7|N7 general G entry P|With entry P, counted from 0, the log of general G first begins no log that a follower of the algorithm could keep.\n\
 N8|N8 from A to B round L order V|Only one of the logs of generals A and B has the message of order V that A sent B in round L, or they have it with different paths.\n\
 N9|N9 from A to B round L order V|What general B received with order V in round L from general A, which is held for faulty, derives from nothing that the rest sent the faulty.\n\
-N10|N10 pair A B|No walk of the bundle joins generals A and B by few enough edges of the rest, and no lesser pair is so; in a bundle without walks A and B may be joined.\n\
+N10|N10 pair A B|No walk of the bundle joins generals A and B by few enough edges of the rest, and no lesser pair is so; if there are no walks, see parted in the verdict as JSON.\n\
 N11|N11|Nobody is of the rest, since all generals are held for faulty, and nothing else is found.\n\
 G2|fault G2 generals A B|Generals A and B have the same root, and no lesser pair has: whoever has its keys is counted twice.\n\
 fault|fault NAMES|The input has a fault, the first in the order in which it is read.\n\
@@ -199,6 +199,7 @@ order|order|The number of an order, which is a value to agree on.\n\
 orders|orders|How many orders the network has.\n\
 other_run|other_run|The id of the run of the second text.\n\
 own|own|The order with which the commander began, or null.\n\
+parted|parted|The least two generals of the rest that no walk of few enough edges of the rest joins, or null.\n\
 path|path|The generals that signed the message, in their order.\n\
 place|place|The place of a run in its campaign, counted from 0.\n\
 recv|recv|An entry for a message that was received.\n\

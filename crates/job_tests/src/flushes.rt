@@ -1,9 +1,10 @@
 //! Jobs over a writer that takes all bytes, and says where it is flushed that they are lost. The three jobs
 //! are of the three ways in which an output is written.
-ghost use Rattle.gen_jobs.specs.Ranges.{IsInRange};
+ghost use Rattle.gen_asked.specs.Ranges.{IsInRange};
 
 use crate::texts::{ONE_RUN, PAIR};
-use gen_jobs::{Job, JobEnd, JobFault, do_job};
+use gen_asked::Job;
+use gen_jobs::{JobEnd, JobFault, do_job};
 use gen_types::TreeHeight;
 use std::alloc::Global;
 use std::io;

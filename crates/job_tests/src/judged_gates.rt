@@ -7,9 +7,9 @@ ghost use Rattle.gen_audit.specs.BundleParts.{AreListedWalks};
 
 use crate::made::{bundle_of, campaign_in, campaign_told, scenario_of, written};
 use crate::texts::{LINE, PAIR, RING, STAR, TWO_RUNS};
+use gen_asked::Job;
 use gen_audit::{AuditFault, Bundle, JobGate, Judgement, Verdict, WorkerCount, audit};
 use gen_campaign::{CampaignVerdict, audit_campaign, run_campaign};
-use gen_jobs::Job;
 use gen_judge::run_and_audit;
 use gen_log::SealedLog;
 use gen_scenario::Scenario;

@@ -1,12 +1,13 @@
 //! What these tests are made of: jobs, scenarios, and what is read of bytes.
-ghost use Rattle.gen_jobs.specs.Ranges.{IsInRange};
+ghost use Rattle.gen_asked.specs.Ranges.{IsInRange};
 
+use gen_asked::Job;
 use gen_audit::{Bundle, read_bundle};
 use gen_campaign::{
     Campaign, CampaignBundle, make_campaign, read_campaign, read_campaign_text,
     texts_make_campaigns,
 };
-use gen_jobs::{Job, JobEnd, do_job};
+use gen_jobs::{JobEnd, do_job};
 use gen_report::{ScenarioText, read_scenario};
 use gen_scenario::Scenario;
 use std::alloc::Global;

@@ -2,7 +2,7 @@
 use crate::names::Refused;
 use crate::rows::Row;
 use crate::texts::Answer;
-use gen_node::{FrameFault, FrameFront, WireFrame, frame_bytes, read_frame};
+use gen_node::{FrameFault, FrameFront, WireFrame, read_frame};
 use std::alloc::Global;
 
 /// Answers a call of this module, and returns whether it is one.
@@ -32,26 +32,15 @@ fn tell_frame(alloc: Global, mut row: Row<'_>, answer: &mut Answer) -> Result<()
     };
     let bytes = row.rest()?;
     match read_frame(alloc, bytes) {
-        Ok(frame) => tell_read(alloc, &frame, &awaited, bytes, answer),
+        Ok(frame) => tell_read(&frame, &awaited, answer),
         Err(fault) => answer.show(fault),
     }
     Ok(())
 }
 
-/// Tells the parcels of a frame that is read of these bytes, or its fault.
-fn tell_read(
-    alloc: Global,
-    frame: &WireFrame,
-    awaited: &FrameFront,
-    bytes: &[u8],
-    answer: &mut Answer,
-) {
-    let front = frame.front();
-    match frame_bytes(alloc, &front, frame.parcels()) {
-        Ok(written) if written.as_slice() == bytes => {}
-        _ => return answer.word("written otherwise"),
-    }
-    match front_fault(&front, awaited) {
+/// Tells the parcels of a frame that is read, or its fault.
+fn tell_read(frame: &WireFrame, awaited: &FrameFront, answer: &mut Answer) {
+    match front_fault(&frame.front(), awaited) {
         Some(fault) => answer.show(fault),
         None => tell_parcels(frame, answer),
     }

@@ -1,9 +1,10 @@
 //! Calls of words of the command line, and of whole commands.
 use crate::forms::{Form, done};
 use clap::error::ErrorKind;
-use gen_jobs::{Job, JobEnd, Telling, job_fault_line};
+use gen_asked::{Job, Telling};
+use gen_jobs::{JobEnd, job_fault_line};
 use gen_net::Version;
-use gen_program::{Several, WordsFault, read_several, read_words};
+use gen_words::{Several, WordsFault, read_several, read_words};
 use row_calls::names::Refused;
 use row_calls::rows::Row;
 use row_calls::texts::Answer;

@@ -6,9 +6,10 @@ use Rattle.std.proofs.lemmas.Option.{none-some, same_Some}
 use Rattle.gen_jobs.specs.declared.ends.JobFault.{JobFault}
 use Rattle.gen_jobs.specs.declared.ends.Output.{Output}
 use Rattle.gen_jobs.specs.declared.ends.JobFault.TheVariants as faults
-use Rattle.gen_jobs.specs.declared.asked_runs.AskedRuns.{AskedRuns}
-use Rattle.gen_jobs.specs.Asking.{IsShowFault}
+use Rattle.gen_asked.specs.declared.asked_runs.AskedRuns.{AskedRuns}
+use Rattle.gen_asked.specs.declared.jobs.Job.TheVariants.{Accuse}
 use Rattle.gen_jobs.specs.Audit.{IsAuditFault}
+use Rattle.gen_jobs.specs.Jobs.{JobFails}
 use Rattle.sm_embed.specs.Handing.{Hands, HandsOver, IsHanded}
 use Rattle.sm_embed.specs.Making.{IsMade, KeepsOver, Makes, status_of_made}
 use Rattle.sm_embed.specs.declared.kept.Kept.{Kept}
@@ -71,17 +72,17 @@ of_fault F (Ok None) given e f = absurd (none-some given (sym e))
 of_fault F (Ok (Some o)) given e f = subst (λ g. IfErr g F) (sym (same_Some given (Ok o) e)) tt
 of_fault F (Err fault) given e f = subst (λ g. IfErr g F) (sym (same_Some given (Err fault) e)) f
 
--- a fault of an input that should be a bundle or a campaign is one too if runs are asked for
-pub is_show_fault : (asked : AskedRuns) (input : List ℕ) (f : JobFault) → IsAuditFault input f → IsShowFault asked input f
-is_show_fault asked input faults.Memory h = h
-is_show_fault asked input faults.OtherRun h = absurd h
-is_show_fault asked input faults.Thread h = absurd h
-is_show_fault asked input faults.Read h = absurd h
-is_show_fault asked input faults.Write h = absurd h
-is_show_fault asked input faults.Open h = absurd h
-is_show_fault asked input (faults.Scenario f) h = absurd h
-is_show_fault asked input (faults.Campaign f) h = h
-is_show_fault asked input (faults.Evidence f) h = absurd h
-is_show_fault asked input (faults.Log f) h = absurd h
-is_show_fault asked input (faults.Seed f) h = absurd h
-is_show_fault asked input (faults.EqualRoots a b) h = absurd h
+-- a fault of any input that should be a bundle or a campaign is one of the job accuse
+pub is_accuse_fault : (general : ℕ) (asked : AskedRuns) (input : List ℕ) (f : JobFault) → IsAuditFault input f → JobFails (Accuse general asked) input f
+is_accuse_fault general asked input faults.Memory h = h
+is_accuse_fault general asked input faults.OtherRun h = absurd h
+is_accuse_fault general asked input faults.Thread h = absurd h
+is_accuse_fault general asked input faults.Read h = absurd h
+is_accuse_fault general asked input faults.Write h = absurd h
+is_accuse_fault general asked input faults.Open h = absurd h
+is_accuse_fault general asked input (faults.Scenario f) h = absurd h
+is_accuse_fault general asked input (faults.Campaign f) h = h
+is_accuse_fault general asked input (faults.Evidence f) h = absurd h
+is_accuse_fault general asked input (faults.Log f) h = absurd h
+is_accuse_fault general asked input (faults.Seed f) h = absurd h
+is_accuse_fault general asked input (faults.EqualRoots a b) h = absurd h

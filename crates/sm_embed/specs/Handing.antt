@@ -1,9 +1,11 @@
 -- What a caller in another language is handed: what the room holds after the call, and what the count is.
-use Rattle.std.specs.Prelude.{ℕ, ◌≡◌, ◌<◌, ◌⊎◌, ◌++◌, Bool, true, false, List, length, drop, Result, Ok, Err}
+use Rattle.std.specs.Prelude.{ℕ, ◌≡◌, ◌<◌, ◌⊎◌, ◌++◌, Bool, true, false, List, length, drop, None, Result, Ok, Err}
+use Rattle.gen_asked.specs.declared.jobs.Job.{Job}
 use Rattle.gen_jobs.specs.declared.ends.JobFault.{JobFault}
 use Rattle.gen_jobs.specs.declared.ends.Output.{Output}
 use Rattle.gen_jobs.specs.Ends.{fault_status}
 use Rattle.gen_jobs.specs.FaultLines.{job_fault_line}
+use Rattle.gen_jobs.specs.Jobs.{JobAnswers, JobFails}
 use Rattle.sm_embed.specs.Statuses.{status_of_handed}
 use Rattle.sm_embed.specs.declared.handed.Handed.{Handed}
 use Rattle.sm_embed.specs.declared.handed.Handed.TheVariants.{Yes, No, Line, Nothing, Length}
@@ -71,3 +73,8 @@ Hands IsAnswer IsFault old new count Length =
 abbrev pub IsHanded : (List ℕ → Bool → Type 0) → (JobFault → Type 0) → List ℕ → List ℕ → ℕ → ℕ → Type 0
 IsHanded IsAnswer IsFault old new count status =
     (handed : Handed) × (status ≡ status_of_handed handed) × Hands IsAnswer IsFault old new count handed
+
+-- the returned number is the one for what was handed of this job's answer to the input, which has no name
+abbrev pub HandsJob : Job → List ℕ → List ℕ → List ℕ → ℕ → ℕ → Type 0
+HandsJob job input old new count status =
+    IsHanded (JobAnswers job None input) (JobFails job input) old new count status

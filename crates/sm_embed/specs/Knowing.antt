@@ -4,10 +4,11 @@ use Rattle.std.specs.List.{list_any}
 use Rattle.gen_types.specs.Spelled.{Spells}
 use Rattle.gen_campaign.specs.Campaign.{CampaignBundle, IsCampaign}
 use Rattle.gen_campaign.specs.CampaignSpelling.{campaign_spelling}
-use Rattle.gen_jobs.specs.Accusing.{IsAccused}
-use Rattle.gen_jobs.specs.Asking.{IsAccusedOf, IsShowFault}
-use Rattle.gen_jobs.specs.Audit.{IsAuditFault}
-use Rattle.gen_jobs.specs.declared.asked_runs.AskedRuns.{AskedRuns}
+use Rattle.gen_jobs.specs.Asking.{IsAccusedOf}
+use Rattle.gen_jobs.specs.Jobs.{JobFails}
+use Rattle.gen_asked.specs.declared.asked_runs.AskedRuns.{AskedRuns}
+use Rattle.gen_asked.specs.declared.asked_runs.AskedRuns.TheVariants.{Any}
+use Rattle.gen_asked.specs.declared.jobs.Job.TheVariants.{Accuse}
 use Rattle.gen_jobs.specs.declared.ends.JobFault.{JobFault}
 use Rattle.gen_jobs.specs.declared.ends.Output.{Output}
 use Rattle.sm_embed.specs.Handing.{IsHanded, IsUntouched}
@@ -24,28 +25,24 @@ Knows general input known =
     (shown : CampaignBundle) × Spells IsCampaign campaign_spelling input shown
     × (is_known general shown ≡ known)
 
--- the text is the evidence against a general of a run
-abbrev pub IsAccusedKnown : ℕ → List ℕ → List ℕ → Bool → Type 0
-IsAccusedKnown general input text negative = IsAccused general input text negative × Knows general input true
+-- the text is the evidence against a general of a run, and the input is of the runs that are asked for
+abbrev pub IsAccusedKnownOf : AskedRuns → ℕ → List ℕ → List ℕ → Bool → Type 0
+IsAccusedKnownOf asked general input text negative =
+    IsAccusedOf asked general input text negative × Knows general input true
 
 -- an answer about a general of a run; or there is none, because the general is no run's
 abbrev pub TellsKnown : ℕ → List ℕ → Option Output → Type 0
 TellsKnown general input None = Knows general input false
-TellsKnown general input (Some o) = IsAccusedKnown general input o.text.items o.negative
+TellsKnown general input (Some o) = IsAccusedKnownOf Any general input o.text.items o.negative
 
 -- the returned number is 6, and the general is no run's; or it is the one for what was handed of the evidence
 -- against a general of a run
 abbrev pub AccusesKnown : ℕ → List ℕ → List ℕ → List ℕ → ℕ → ℕ → Type 0
 AccusesKnown general input old new count status =
     ((status ≡ 6) × IsUntouched old new count × Knows general input false)
-    ⊎ IsHanded (IsAccusedKnown general input) (IsAuditFault input) old new count status
+    ⊎ IsHanded (IsAccusedKnownOf Any general input) (JobFails (Accuse general Any) input) old new count status
 
 -- ---- the same for an answer that is kept, of the runs that are asked for
-
--- the text is the evidence against a general of a run, and the input is of the runs that are asked for
-abbrev pub IsAccusedKnownOf : AskedRuns → ℕ → List ℕ → List ℕ → Bool → Type 0
-IsAccusedKnownOf asked general input text negative =
-    IsAccusedOf asked general input text negative × Knows general input true
 
 -- the general is no run's, and the input is of the runs that are asked for: it has an answer if it is asked
 -- without the test
@@ -65,7 +62,7 @@ TellsKnownOf asked general input (Some o) =
 abbrev pub IsMadeKnown : ℕ → List ℕ → AskedRuns → Option Kept → ℕ → Type 0
 IsMadeKnown general input asked held status =
     ((status ≡ 6) × (held ≡ None) × IsNobodyOf asked general input)
-    ⊎ IsMade (IsAccusedKnownOf asked general input) (IsShowFault asked input) held status
+    ⊎ IsMade (IsAccusedKnownOf asked general input) (JobFails (Accuse general asked) input) held status
 
 -- runs are asked for: more than four are misuse
 abbrev pub MakesKnownIf : ℕ → List ℕ → Option AskedRuns → Option Kept → ℕ → Type 0

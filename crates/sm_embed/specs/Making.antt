@@ -1,16 +1,20 @@
 -- What a call makes of an answer that a caller in another language holds.
 use Rattle.std.specs.Prelude.{ℕ, ◌≡◌, ◌==◌, not, if◌then◌else◌, Bool, true, false, List, [], ◌∷◌}
 use Rattle.std.specs.Prelude.{Option, Some, None, Result, Ok, Err}
-use Rattle.gen_jobs.specs.AskedRuns.{few_runs}
+use Rattle.gen_asked.specs.AskedRuns.{few_runs}
 use Rattle.gen_jobs.specs.Ends.{fault_status}
 use Rattle.gen_jobs.specs.FaultLines.{job_fault_line}
-use Rattle.gen_jobs.specs.declared.asked_runs.AskedRuns.{AskedRuns}
-use Rattle.gen_jobs.specs.declared.asked_runs.AskedRuns.TheVariants.{Any}
+use Rattle.gen_jobs.specs.Jobs.{JobAnswers, JobFails}
+use Rattle.gen_asked.specs.declared.asked_runs.AskedRuns.{AskedRuns}
+use Rattle.gen_asked.specs.declared.asked_runs.AskedRuns.TheVariants.{Any}
 use Rattle.gen_jobs.specs.declared.ends.JobFault.{JobFault}
 use Rattle.gen_jobs.specs.declared.ends.JobFault.TheVariants as faults
 use Rattle.gen_jobs.specs.declared.ends.Output.{Output}
-use Rattle.gen_jobs.specs.declared.forms.Form.{Form}
-use Rattle.gen_jobs.specs.declared.forms.Form.TheVariants.{Text, Json}
+use Rattle.gen_asked.specs.declared.faulty.Faulty.TheVariants.{Listed}
+use Rattle.gen_asked.specs.declared.forms.Form.{Form}
+use Rattle.gen_asked.specs.declared.forms.Form.TheVariants.{Text, Json}
+use Rattle.gen_asked.specs.declared.jobs.Job.{Job}
+use Rattle.gen_asked.specs.declared.jobs.Job.TheVariants as jobs
 use Rattle.sm_embed.specs.Handing.{IsOfInput, IsUntouched, PutsText}
 use Rattle.sm_embed.specs.declared.kept.Kept.{Kept}
 use Rattle.sm_embed.specs.declared.made.Made.{Made}
@@ -28,6 +32,14 @@ is_strict number = not (number == 0)
 -- the form with this number: text for 0, JSON for 1, and None for any other
 abbrev pub form_in : ℕ → Option Form
 form_in number = if number == 0 then Some Text else if number == 1 then Some Json else None
+
+-- the job `audit` by one worker, of the generals that the input lists
+abbrev pub audit_job : Form → Bool → AskedRuns → Job
+audit_job form strict asked = jobs.Audit 1 (record { runs = asked; faulty = Listed }) strict form
+
+-- the job `draw` by one worker, of the generals that the input lists
+abbrev pub draw_job : AskedRuns → Job
+draw_job asked = jobs.Draw 1 (record { runs = asked; faulty = Listed })
 
 -- the number for the line of a fault: the program's exit status, and 7 for an input of another run
 abbrev pub line_status : JobFault → ℕ
@@ -82,13 +94,15 @@ IsMade IsAnswer IsFault held status =
 abbrev pub IsMisuse : Option Kept → ℕ → Type 0
 IsMisuse held status = (status ≡ 2) × (held ≡ None)
 
--- Runs are asked for. More than four are misuse; else what is made is what the job answers if these runs are
+-- the returned number is the one for what was made of this job's answer to the input, which has no name
+abbrev pub MakesJob : Job → List ℕ → Option Kept → ℕ → Type 0
+MakesJob job input held status = IsMade (JobAnswers job None input) (JobFails job input) held status
+
+-- Runs are asked for. More than four are misuse; else what is made is what this job answers if these runs are
 -- asked for.
-abbrev pub MakesIf :
-    (AskedRuns → List ℕ → Bool → Type 0) → (AskedRuns → JobFault → Type 0) → Option AskedRuns → Option Kept
-    → ℕ → Type 0
-MakesIf IsAnswer IsFault None held status = IsMisuse held status
-MakesIf IsAnswer IsFault (Some asked) held status = IsMade (IsAnswer asked) (IsFault asked) held status
+abbrev pub MakesIf : (AskedRuns → Job) → List ℕ → Option AskedRuns → Option Kept → ℕ → Type 0
+MakesIf job input None held status = IsMisuse held status
+MakesIf job input (Some asked) held status = MakesJob (job asked) input held status
 
 -- A form is asked for. A number that is no form's is misuse; else what is made is this for the form.
 abbrev pub MakesIn : (Form → Option Kept → ℕ → Type 0) → Option Form → Option Kept → ℕ → Type 0

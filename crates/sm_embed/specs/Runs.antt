@@ -11,9 +11,9 @@ use Rattle.gen_convict.specs.EvidenceSpelling.{HeaderAndEvidence}
 use Rattle.gen_campaign.specs.declared.campaign_fault.CampaignFault.{CampaignFault}
 use Rattle.gen_campaign.specs.Campaign.{CampaignBundle}
 use Rattle.gen_campaign.specs.CampaignReading.{whole_campaign}
-use Rattle.gen_show.specs.Showing.{file_kind}
-use Rattle.gen_show.specs.declared.kinds.FileKind.{FileKind}
-use Rattle.gen_show.specs.declared.kinds.FileKind.TheVariants.{OfHeader, OfEvidence, OfCampaign}
+use Rattle.gen_file.specs.Kinds.{file_kind}
+use Rattle.gen_file.specs.declared.kinds.FileKind.{FileKind}
+use Rattle.gen_file.specs.declared.kinds.FileKind.TheVariants.{OfHeader, OfEvidence, OfCampaign}
 use Rattle.sm_embed.specs.Handing.{IsUntouched, PutsText}
 
 -- the id of the run of a header that was read with the number of its bytes, if these are all bytes

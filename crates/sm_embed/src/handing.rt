@@ -1,10 +1,12 @@
 //! Hands an answer to a caller in another language.
 ghost use Rattle.std.specs.Prelude.{◌≡◌, true, false, IfSome, string_bytes};
+ghost use Rattle.gen_asked.specs.Ranges.{IsInRange};
 ghost use Rattle.gen_jobs.specs.FaultLines.{job_fault_line};
-ghost use Rattle.sm_embed.specs.Handing.{Fits, HandsOver, IsOfInput, IsTooLong};
+ghost use Rattle.sm_embed.specs.Handing.{Fits, HandsJob, HandsOver, IsOfInput, IsTooLong};
 
 use crate::handed::Handed;
-use gen_jobs::{JobFault, Output, job_fault_line};
+use gen_asked::Job;
+use gen_jobs::{JobFault, Output, answer_in_place, job_fault_line};
 use std::alloc::Global;
 
 /// Copies a text to the beginning of the room if it fits there, and returns whether it does. The count is the text's
@@ -73,4 +75,18 @@ pub(crate) fn hand(
             }
         },
     }
+}
+
+/// Hands over the answer of a job to an input, and returns the number that says what was handed.
+pub(crate) fn hand_job(
+    alloc: Global,
+    job: Job,
+    input: &[u8],
+    room: &mut [u8],
+    count: &mut usize,
+) -> u32
+    requires { IsInRange job }
+    ensures { HandsJob job input.now room.old room.new count.new result }
+{
+    hand(alloc, answer_in_place(alloc, job, None, input), room, count).status()
 }

@@ -30,24 +30,18 @@
 //! process. The contract of each function says what `Handed` and its `IsHanded` mean for it, or `Made` and its `IsMade`.
 #![tactic(auto)]
 
-ghost use Rattle.std.specs.Prelude.{ℕ, ◌≡◌, ◌<◌, ◌≤◌, None};
+ghost use Rattle.std.specs.Prelude.{ℕ, ◌≡◌, ◌<◌, ◌≤◌, None, false};
 ghost use Rattle.gen_prepare.specs.Answering.{IsAnswered};
 ghost use Rattle.gen_net.specs.declared.version.Version.TheVariants.{One};
-ghost use Rattle.gen_jobs.specs.Accusing.{IsAccused};
-ghost use Rattle.gen_jobs.specs.Asking.{IsAccusedOf, IsAuditedAs, IsAuditedIn, IsCheckedIn, IsCheckedOf};
-ghost use Rattle.gen_jobs.specs.Asking.{IsDrawnOf, IsEvidenceFaultOf, IsShowFault};
-ghost use Rattle.gen_jobs.specs.Audit.{IsAudited, IsAuditFault};
-ghost use Rattle.gen_jobs.specs.Checking.{IsChecked, IsEvidenceFault};
-ghost use Rattle.gen_jobs.specs.Decide.{IsDecided, IsDecidedIn, IsDecideFault};
-ghost use Rattle.gen_jobs.specs.Drawing.{IsDrawn};
 ghost use Rattle.gen_jobs.specs.Joining.{IsReplyFault};
-ghost use Rattle.gen_jobs.specs.Planning.{IsPlan, IsPlanFault};
-ghost use Rattle.gen_jobs.specs.Showing.{IsShownFault, IsShownIn};
-ghost use Rattle.gen_jobs.specs.Telling.{IsMemory, IsTold};
-ghost use Rattle.gen_jobs.specs.declared.telling.Telling.TheVariants as tellings;
-ghost use Rattle.sm_embed.specs.Handing.{IsHanded, IsUntouched};
+ghost use Rattle.gen_asked.specs.declared.asked_runs.AskedRuns.TheVariants.{Any};
+ghost use Rattle.gen_asked.specs.declared.forms.Form.TheVariants as forms;
+ghost use Rattle.gen_asked.specs.declared.jobs.Job.TheVariants as jobs;
+ghost use Rattle.gen_asked.specs.declared.telling.Telling.TheVariants as tellings;
+ghost use Rattle.sm_embed.specs.Handing.{HandsJob, IsHanded, IsUntouched};
 ghost use Rattle.sm_embed.specs.Knowing.{AccusesKnown, MakesKnownIf};
-ghost use Rattle.sm_embed.specs.Making.{HandsKept, IsMade, IsMisuse, MakesIf, MakesIn, asked_in, form_in, is_strict};
+ghost use Rattle.sm_embed.specs.Making.{HandsKept, IsMade, IsMisuse, MakesIf, MakesIn, MakesJob};
+ghost use Rattle.sm_embed.specs.Making.{asked_in, audit_job, draw_job, form_in, is_strict};
 ghost use Rattle.sm_embed.specs.Runs.{TellsRuns};
 
 mod handed;
@@ -60,16 +54,13 @@ mod making;
 mod opaque;
 mod runs;
 
-use crate::handing::hand;
+use crate::handing::{hand, hand_job};
 use crate::knowing::{accuse_known, accuse_known_of};
-use crate::making::{MISUSE, asked_in, form_in, hand_kept, keep};
+use crate::making::{MISUSE, asked_in, audit_job, draw_job, form_in, hand_kept, keep, keep_job};
 use crate::opaque::SmAnswer;
 use crate::runs::tell_runs;
-use gen_jobs::{
-    Telling, accuse_asked_in_place, accuse_in_place, audit_asked_in_place, audit_form_in_place,
-    audit_in_place, decide, decide_in, draw_asked_in_place, draw_in_place, evidence,
-    evidence_as_asked, evidence_in, plan, show_in, tell,
-};
+use gen_asked::{AskedRuns, Form, Job, Telling};
+use gen_jobs::answer_evidence;
 use gen_net::Version;
 use gen_types::GeneralNo;
 use gen_types::limits::MOST_GENERALS;
@@ -84,18 +75,20 @@ const NOBODY: u32 = 6;
 /// Hands over the verdict on the bundle or the campaign that the input spells, as the command `audit` writes it.
 #[unsafe(no_mangle)]
 pub extern "C" fn sm_audit(alloc: Global, input: &[u8], room: &mut [u8], count: &mut usize) -> u32
-    ensures { IsHanded (IsAudited input.now) (IsAuditFault input.now) room.old room.new count.new result }
+    ensures { HandsJob (audit_job forms.Text false Any) input.now room.old room.new count.new result }
 {
-    hand(alloc, audit_in_place(alloc, input), room, count).status()
+    let job = audit_job(Form::Text, false, AskedRuns::Any);
+    hand_job(alloc, job, input, room, count)
 }
 
 /// Hands over the picture of the bundle or the campaign that the input spells, and of the judgement on it: the SVG text
 /// that the command `draw` writes. It never says no.
 #[unsafe(no_mangle)]
 pub extern "C" fn sm_draw(alloc: Global, input: &[u8], room: &mut [u8], count: &mut usize) -> u32
-    ensures { IsHanded (IsDrawn input.now) (IsAuditFault input.now) room.old room.new count.new result }
+    ensures { HandsJob (draw_job Any) input.now room.old room.new count.new result }
 {
-    hand(alloc, draw_in_place(alloc, input), room, count).status()
+    let job = draw_job(AskedRuns::Any);
+    hand_job(alloc, job, input, room, count)
 }
 
 /// Hands over the evidence that the bundle or the campaign in the input holds against a general: the bytes that the
@@ -109,7 +102,7 @@ pub extern "C" fn sm_accuse(
     count: &mut usize,
 ) -> u32
     ensures general { general < 16 →
-        IsHanded (IsAccused general input.now) (IsAuditFault input.now) room.old room.new count.new result }
+        HandsJob (jobs.Accuse general Any) input.now room.old room.new count.new result }
     // The number is 16 or more, so it is no general's.
     ensures nobody { 16 ≤ general → (result ≡ 2) × IsUntouched room.old room.new count.new }
 {
@@ -118,7 +111,11 @@ pub extern "C" fn sm_accuse(
         return MISUSE;
     }
     let accused = GeneralNo::at(general as u8);
-    hand(alloc, accuse_in_place(alloc, accused, input), room, count).status()
+    let job = Job::Accuse {
+        general: accused,
+        asked: AskedRuns::Any,
+    };
+    hand_job(alloc, job, input, room, count)
 }
 
 /// Hands over whether the evidence that the input spells holds, as the command `evidence` writes it.
@@ -129,18 +126,22 @@ pub extern "C" fn sm_evidence(
     room: &mut [u8],
     count: &mut usize,
 ) -> u32
-    ensures { IsHanded (IsChecked input.now) (IsEvidenceFault input.now) room.old room.new count.new result }
+    ensures { HandsJob (jobs.Evidence Any forms.Text) input.now room.old room.new count.new result }
 {
-    hand(alloc, evidence(alloc, input), room, count).status()
+    let job = Job::Evidence {
+        asked: AskedRuns::Any,
+        form: Form::Text,
+    };
+    hand_job(alloc, job, input, room, count)
 }
 
 /// Hands over what each general without a script decides in the run of the scenario that the input spells, as the
 /// command `decide` writes it.
 #[unsafe(no_mangle)]
 pub extern "C" fn sm_decide(alloc: Global, input: &[u8], room: &mut [u8], count: &mut usize) -> u32
-    ensures { IsHanded (IsDecided input.now) (IsDecideFault input.now) room.old room.new count.new result }
+    ensures { HandsJob (jobs.Decide forms.Text) input.now room.old room.new count.new result }
 {
-    hand(alloc, decide(alloc, input), room, count).status()
+    hand_job(alloc, Job::Decide { form: Form::Text }, input, room, count)
 }
 
 /// Hands over the evidence that the bundle or the campaign in the input holds against a general, as `sm_accuse` does, but
@@ -183,7 +184,7 @@ pub extern "C" fn sm_refute(
     ensures { IsHanded (IsAnswered evidence.now log.now) (IsReplyFault evidence.now log.now)
         room.old room.new count.new result }
 {
-    hand(alloc, gen_jobs::answer(alloc, evidence, log), room, count).status()
+    hand(alloc, answer_evidence(alloc, evidence, log), room, count).status()
 }
 
 /// Returns the number of the version of this library: 1000000 times the first number, 1000 times the second, and the
@@ -216,15 +217,15 @@ pub extern "C" fn sm_audit_of(
     input: &[u8],
     answer: &mut SmAnswer,
 ) -> u32
-    ensures { MakesIf (λ asked. IsAuditedAs asked (is_strict strict) input.now)
-        (λ asked. IsShowFault asked input.now) (asked_in runs.now) answer.new.held result }
+    ensures { MakesIf (λ asked. audit_job forms.Text (is_strict strict) asked) input.now
+        (asked_in runs.now) answer.new.held result }
 {
     answer.clear(alloc);
     let Some(asked) = asked_in(runs) else {
         return MISUSE;
     };
-    let answered = audit_asked_in_place(alloc, asked, strict != 0, input);
-    keep(alloc, answered, answer).status()
+    let job = audit_job(Form::Text, strict != 0, asked);
+    keep_job(alloc, job, input, answer)
 }
 
 /// Makes the answer of the picture of the bundle or the campaign that the input spells, and of the judgement on it: the
@@ -236,14 +237,14 @@ pub extern "C" fn sm_draw_of(
     input: &[u8],
     answer: &mut SmAnswer,
 ) -> u32
-    ensures { MakesIf (λ asked. IsDrawnOf asked input.now) (λ asked. IsShowFault asked input.now)
-        (asked_in runs.now) answer.new.held result }
+    ensures { MakesIf (λ asked. draw_job asked) input.now (asked_in runs.now) answer.new.held result }
 {
     answer.clear(alloc);
     let Some(asked) = asked_in(runs) else {
         return MISUSE;
     };
-    keep(alloc, draw_asked_in_place(alloc, asked, input), answer).status()
+    let job = draw_job(asked);
+    keep_job(alloc, job, input, answer)
 }
 
 /// Makes the answer of the evidence that the bundle or the campaign in the input holds against a general: the bytes that
@@ -257,8 +258,8 @@ pub extern "C" fn sm_accuse_of(
     input: &[u8],
     answer: &mut SmAnswer,
 ) -> u32
-    ensures general { general < 16 → MakesIf (λ asked. IsAccusedOf asked general input.now)
-        (λ asked. IsShowFault asked input.now) (asked_in runs.now) answer.new.held result }
+    ensures general { general < 16 → MakesIf (λ asked. jobs.Accuse general asked) input.now
+        (asked_in runs.now) answer.new.held result }
     // The number is 16 or more, so it is no general's.
     ensures nobody { 16 ≤ general → IsMisuse answer.new.held result }
 {
@@ -270,12 +271,11 @@ pub extern "C" fn sm_accuse_of(
         return MISUSE;
     };
     let accused = GeneralNo::at(general as u8);
-    keep(
-        alloc,
-        accuse_asked_in_place(alloc, asked, accused, input),
-        answer,
-    )
-    .status()
+    let job = Job::Accuse {
+        general: accused,
+        asked,
+    };
+    keep_job(alloc, job, input, answer)
 }
 
 /// Makes the answer of whether the evidence that the input spells holds, as the command `evidence` writes it. The input
@@ -287,53 +287,69 @@ pub extern "C" fn sm_evidence_of(
     input: &[u8],
     answer: &mut SmAnswer,
 ) -> u32
-    ensures { MakesIf (λ asked. IsCheckedOf asked input.now) (λ asked. IsEvidenceFaultOf asked input.now)
-        (asked_in runs.now) answer.new.held result }
+    ensures { MakesIf (λ asked. jobs.Evidence asked forms.Text) input.now (asked_in runs.now)
+        answer.new.held result }
 {
     answer.clear(alloc);
     let Some(asked) = asked_in(runs) else {
         return MISUSE;
     };
-    keep(alloc, evidence_as_asked(alloc, asked, input), answer).status()
+    let job = Job::Evidence {
+        asked,
+        form: Form::Text,
+    };
+    keep_job(alloc, job, input, answer)
 }
 
 /// Makes the answer of what a file is, line by line, as the command `show` writes it. It says no if the file is no whole
 /// bundle, campaign, evidence or header.
 #[unsafe(no_mangle)]
 pub extern "C" fn sm_show(alloc: Global, input: &[u8], answer: &mut SmAnswer) -> u32
-    ensures { IsMade (IsTold tellings.File input.now) IsMemory answer.new.held result }
+    ensures { MakesJob (jobs.Tell tellings.File) input.now answer.new.held result }
 {
     answer.clear(alloc);
-    keep(alloc, tell(alloc, Telling::File, input), answer).status()
+    let job = Job::Tell {
+        what: Telling::File,
+    };
+    keep_job(alloc, job, input, answer)
 }
 
 /// Makes the answer of what a name means, as the command `explain` writes it. If the name is none, there is no text, and
 /// the answer says no.
 #[unsafe(no_mangle)]
 pub extern "C" fn sm_explain(alloc: Global, input: &[u8], answer: &mut SmAnswer) -> u32
-    ensures { IsMade (IsTold tellings.Name input.now) IsMemory answer.new.held result }
+    ensures { MakesJob (jobs.Tell tellings.Name) input.now answer.new.held result }
 {
     answer.clear(alloc);
-    keep(alloc, tell(alloc, Telling::Name, input), answer).status()
+    let job = Job::Tell {
+        what: Telling::Name,
+    };
+    keep_job(alloc, job, input, answer)
 }
 
 /// Makes the answer of whether the plan of the header in the input holds, as the command `plan` writes it: of a header
 /// alone, the first of a bundle or of a campaign, or the text of a header of version 1. It says no if the plan fails.
 #[unsafe(no_mangle)]
 pub extern "C" fn sm_plan(alloc: Global, input: &[u8], answer: &mut SmAnswer) -> u32
-    ensures { IsMade (IsPlan One input.now) (IsPlanFault One input.now) answer.new.held result }
+    ensures { MakesJob (jobs.Plan One) input.now answer.new.held result }
 {
     answer.clear(alloc);
-    keep(alloc, plan(alloc, Version::One, input), answer).status()
+    let job = Job::Plan {
+        version: Version::One,
+    };
+    keep_job(alloc, job, input, answer)
 }
 
 /// Makes the answer of a text with what each of its lines means behind the line, as the command `words` writes it.
 #[unsafe(no_mangle)]
 pub extern "C" fn sm_words(alloc: Global, input: &[u8], answer: &mut SmAnswer) -> u32
-    ensures { IsMade (IsTold tellings.Text input.now) IsMemory answer.new.held result }
+    ensures { MakesJob (jobs.Tell tellings.Text) input.now answer.new.held result }
 {
     answer.clear(alloc);
-    keep(alloc, tell(alloc, Telling::Text, input), answer).status()
+    let job = Job::Tell {
+        what: Telling::Text,
+    };
+    keep_job(alloc, job, input, answer)
 }
 
 /// Hands over the text that an answer holds, which stays there. It returns 0, or 5 if the text is longer than the room,
@@ -401,7 +417,7 @@ pub extern "C" fn sm_refute_kept(
         answer.new.held result }
 {
     answer.clear(alloc);
-    keep(alloc, gen_jobs::answer(alloc, evidence, log), answer).status()
+    keep(alloc, answer_evidence(alloc, evidence, log), answer).status()
 }
 
 /// Makes the answer of the verdict on the bundle or the campaign that the input spells, in a form: 0 for text, as
@@ -415,8 +431,8 @@ pub extern "C" fn sm_audit_as(
     input: &[u8],
     answer: &mut SmAnswer,
 ) -> u32
-    ensures { MakesIn (λ told. MakesIf (λ asked. IsAuditedIn told asked (is_strict strict) input.now)
-        (λ asked. IsShowFault asked input.now) (asked_in runs.now)) (form_in form) answer.new.held result }
+    ensures { MakesIn (λ told. MakesIf (λ asked. audit_job told (is_strict strict) asked) input.now
+        (asked_in runs.now)) (form_in form) answer.new.held result }
 {
     answer.clear(alloc);
     let Some(told) = form_in(form) else {
@@ -425,8 +441,8 @@ pub extern "C" fn sm_audit_as(
     let Some(asked) = asked_in(runs) else {
         return MISUSE;
     };
-    let answered = audit_form_in_place(alloc, told, asked, strict != 0, input);
-    keep(alloc, answered, answer).status()
+    let job = audit_job(told, strict != 0, asked);
+    keep_job(alloc, job, input, answer)
 }
 
 /// Makes the answer of whether the evidence that the input spells holds, in a form: 0 for text, as `sm_evidence_of`
@@ -439,9 +455,8 @@ pub extern "C" fn sm_evidence_as(
     input: &[u8],
     answer: &mut SmAnswer,
 ) -> u32
-    ensures { MakesIn (λ told. MakesIf (λ asked. IsCheckedIn told asked input.now)
-        (λ asked. IsEvidenceFaultOf asked input.now) (asked_in runs.now)) (form_in form)
-        answer.new.held result }
+    ensures { MakesIn (λ told. MakesIf (λ asked. jobs.Evidence asked told) input.now (asked_in runs.now))
+        (form_in form) answer.new.held result }
 {
     answer.clear(alloc);
     let Some(told) = form_in(form) else {
@@ -450,7 +465,8 @@ pub extern "C" fn sm_evidence_as(
     let Some(asked) = asked_in(runs) else {
         return MISUSE;
     };
-    keep(alloc, evidence_in(alloc, told, asked, input), answer).status()
+    let job = Job::Evidence { asked, form: told };
+    keep_job(alloc, job, input, answer)
 }
 
 /// Makes the answer of what each general without a script decides in the run of the scenario that the input spells, in
@@ -458,14 +474,13 @@ pub extern "C" fn sm_evidence_as(
 /// form is misuse. The answer never says no.
 #[unsafe(no_mangle)]
 pub extern "C" fn sm_decide_as(alloc: Global, form: u32, input: &[u8], answer: &mut SmAnswer) -> u32
-    ensures { MakesIn (λ told. IsMade (IsDecidedIn told input.now) (IsDecideFault input.now))
-        (form_in form) answer.new.held result }
+    ensures { MakesIn (λ told. MakesJob (jobs.Decide told) input.now) (form_in form) answer.new.held result }
 {
     answer.clear(alloc);
     let Some(told) = form_in(form) else {
         return MISUSE;
     };
-    keep(alloc, decide_in(alloc, told, input), answer).status()
+    keep_job(alloc, Job::Decide { form: told }, input, answer)
 }
 
 /// Makes the answer of what a file is, in a form: 0 for lines of text, as `sm_show` makes it, and 1 for lines of JSON, as
@@ -480,9 +495,8 @@ pub extern "C" fn sm_show_as(
     input: &[u8],
     answer: &mut SmAnswer,
 ) -> u32
-    ensures { MakesIn (λ told. MakesIf (λ asked. IsShownIn told asked input.now)
-        (λ asked. IsShownFault asked input.now) (asked_in runs.now)) (form_in form)
-        answer.new.held result }
+    ensures { MakesIn (λ told. MakesIf (λ asked. jobs.Show asked told) input.now (asked_in runs.now))
+        (form_in form) answer.new.held result }
 {
     answer.clear(alloc);
     let Some(told) = form_in(form) else {
@@ -491,5 +505,6 @@ pub extern "C" fn sm_show_as(
     let Some(asked) = asked_in(runs) else {
         return MISUSE;
     };
-    keep(alloc, show_in(alloc, told, asked, input), answer).status()
+    let job = Job::Show { asked, form: told };
+    keep_job(alloc, job, input, answer)
 }

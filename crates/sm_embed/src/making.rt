@@ -1,14 +1,17 @@
 //! Keeps an answer for a caller in another language.
 ghost use Rattle.std.specs.Prelude.{◌≡◌, false, None, true};
+ghost use Rattle.gen_asked.specs.Ranges.{IsInRange};
 ghost use Rattle.sm_embed.specs.Handing.{PutsText};
-ghost use Rattle.sm_embed.specs.Making.{HandsKept, HoldsText, KeepsOver, asked_in, form_in};
+ghost use Rattle.sm_embed.specs.Making.{HandsKept, HoldsText, KeepsOver, MakesJob, asked_in, audit_job, draw_job, form_in};
 
 use crate::handed::LENGTH;
 use crate::handing::{line_of_input, put};
 use crate::kept::Kept;
 use crate::made::Made;
 use crate::opaque::SmAnswer;
-use gen_jobs::{AskedRuns, Form, JobFault, Output};
+use gen_asked::{Asked, AskedRuns, Faulty, Form, Job};
+use gen_audit::WorkerCount;
+use gen_jobs::{JobFault, Output, answer_in_place};
 use std::alloc::Global;
 
 /// The number that says that a text was put into the room.
@@ -41,6 +44,36 @@ pub(crate) fn form_in(number: u32) -> Option<Form>
         Some(Form::Json)
     } else {
         None
+    }
+}
+
+/// Returns the job `audit`, of any generals that the input lists as faulty.
+pub(crate) fn audit_job(form: Form, strict: bool, runs: AskedRuns) -> Job
+    ensures same { result ≡ audit_job form strict runs }
+    ensures range { IsInRange result }
+{
+    Job::Audit {
+        workers: WorkerCount::one(),
+        asked: Asked {
+            runs,
+            faulty: Faulty::Listed,
+        },
+        strict,
+        form,
+    }
+}
+
+/// Returns the job `draw`, of any generals that the input lists as faulty.
+pub(crate) fn draw_job(runs: AskedRuns) -> Job
+    ensures same { result ≡ draw_job runs }
+    ensures range { IsInRange result }
+{
+    Job::Draw {
+        workers: WorkerCount::one(),
+        asked: Asked {
+            runs,
+            faulty: Faulty::Listed,
+        },
     }
 }
 
@@ -89,6 +122,14 @@ pub(crate) fn keep(alloc: Global, answered: Result<Output, JobFault>, answer: &m
             }
         },
     }
+}
+
+/// Keeps the answer of a job to an input, and returns the number that says what is held. What was held before is dropped.
+pub(crate) fn keep_job(alloc: Global, job: Job, input: &[u8], answer: &mut SmAnswer) -> u32
+    requires { IsInRange job }
+    ensures { MakesJob job input.now answer.new.held result }
+{
+    keep(alloc, answer_in_place(alloc, job, None, input), answer).status()
 }
 
 /// Copies a text to the beginning of the room if it fits there, and returns the number that says so. The count is the

@@ -5,8 +5,8 @@ ghost use Rattle.sm_embed.specs.Runs.{TellsRuns, runs_in};
 use crate::making::put_text;
 use gen_campaign::read_campaign;
 use gen_convict::read_evidence;
+use gen_file::{FileKind, file_kind};
 use gen_net::read_header;
-use gen_show::{FileKind, file_kind};
 use gen_types::ReadError;
 use std::alloc::{AllocError, Global};
 

@@ -22,9 +22,10 @@ use Rattle.sm_node.specs.declared.bundles.BundleWalks.TheVariants.{Best, BestOrN
 use Rattle.sm_node.specs.declared.bundles.SmLog.{SmLog}
 use Rattle.sm_node.specs.declared.faults.GatherFault.{GatherFault}
 use Rattle.sm_node.specs.declared.faults.GatherFault.TheVariants.{Header, NoWalk, LongWalk, Bundle}
+use Rattle.sm_node.specs.declared.faults.SmPair.{SmPair}
 use Rattle.sm_node.specs.declared.told.NodeReply.{NodeReply}
 use Rattle.sm_node.specs.declared.told.NodeReply.TheVariants.{Done, Misuse, Fault, Memory, Length}
-use Rattle.sm_node.specs.Faults.{gather_number}
+use Rattle.sm_node.specs.Faults.{gather_number, gather_pair, no_pair, pair_of}
 use Rattle.sm_node.specs.Handing.{IsUntouched, PutsText}
 use Rattle.sm_node.specs.Headers.{header_in}
 
@@ -43,6 +44,10 @@ logs_in (log ∷ logs) bytes =
     if is_in_front log bytes
     then option_map (λ others. log_in_front log bytes ∷ others) (logs_in logs (drop log.bytes bytes))
     else None
+
+-- the walks that are asked for by a number: if it isn't 0, there may be none
+abbrev pub walks_by : ℕ → BundleWalks
+walks_by parted = if parted == 0 then Best else BestOrNone
 
 -- best walks between these generals; or none if two of them have no short walk, where there may be none
 abbrev pub AreWalks : BundleWalks → Network → List ℕ → List (List ℕ) → Type 0
@@ -66,11 +71,11 @@ IsGathered wanted bytes faulty logs text =
     (h : RunHeader) × (walks : List (List ℕ)) × Gathers wanted bytes faulty h walks
     × (bundle_bytes h faulty walks logs ≡ Ok text)
 
--- the fault of gathering for a fault of walks; None for refused memory
+-- the fault of gathering for a fault of walks, with its pair; None for refused memory
 abbrev pub fault_of : WalkFault → Option GatherFault
 fault_of walks.Memory = None
-fault_of (walks.NoWalk pair row) = Some NoWalk
-fault_of (walks.TooLong pair row edges) = Some LongWalk
+fault_of (walks.NoWalk pair row) = Some (NoWalk (pair_of pair.a pair.b))
+fault_of (walks.TooLong pair row edges) = Some (LongWalk (pair_of pair.a pair.b))
 
 -- best walks are wanted, and two of the generals that aren't held for faulty have no short walk, which is
 -- this fault
@@ -86,8 +91,8 @@ HasNoWalks wanted bytes faulty f = (h : RunHeader) × (header_in bytes ≡ Ok h)
 -- this fault is why there is no bundle of a header's bytes, the generals that are held for faulty, and logs
 abbrev pub IsGatherFault : BundleWalks → List ℕ → List ℕ → List LogBytes → GatherFault → Type 0
 IsGatherFault wanted bytes faulty logs (Header f) = header_in bytes ≡ Err f
-IsGatherFault wanted bytes faulty logs NoWalk = HasNoWalks wanted bytes faulty NoWalk
-IsGatherFault wanted bytes faulty logs LongWalk = HasNoWalks wanted bytes faulty LongWalk
+IsGatherFault wanted bytes faulty logs (NoWalk pair) = HasNoWalks wanted bytes faulty (NoWalk pair)
+IsGatherFault wanted bytes faulty logs (LongWalk pair) = HasNoWalks wanted bytes faulty (LongWalk pair)
 IsGatherFault wanted bytes faulty logs (Bundle f) =
     (h : RunHeader) × (walks : List (List ℕ)) × Gathers wanted bytes faulty h walks
     × (bundle_bytes h faulty walks logs ≡ Err f)
@@ -104,20 +109,25 @@ FindsWalks wanted h faulty (Ok walks) = AreWalksBeside wanted h faulty walks
 FindsWalks wanted h faulty (Err errors.Memory) = Unit {0}
 FindsWalks wanted h faulty (Err (errors.Fault f)) = LacksWalks wanted h faulty f
 
--- the bundle's bytes are handed out, or their length alone, or the number of a fault is told
+-- the bundle's bytes are handed out, or their length alone, or the number of a fault is told, and the pair if
+-- the fault has one
 abbrev pub HandsBundle :
-    BundleWalks → List ℕ → ℕ → Option (List LogBytes) → List ℕ → List ℕ → ℕ → ℕ → NodeReply → Type 0
-HandsBundle wanted bytes faulty logs old new count fault Done =
-    (fault ≡ 0) × (faulty < 2 ^ 16) × ((xs : List LogBytes) × (text : List ℕ) × (logs ≡ Some xs)
+    BundleWalks → List ℕ → ℕ → Option (List LogBytes) → List ℕ → List ℕ → ℕ → ℕ → SmPair → NodeReply
+    → Type 0
+HandsBundle wanted bytes faulty logs old new count fault pair Done =
+    (fault ≡ 0) × (pair ≡ no_pair) × (faulty < 2 ^ 16)
+    × ((xs : List LogBytes) × (text : List ℕ) × (logs ≡ Some xs)
     × IsGathered wanted bytes (members_of faulty) xs text × PutsText text old new count Done)
-HandsBundle wanted bytes faulty logs old new count fault Length =
-    (fault ≡ 0) × (faulty < 2 ^ 16) × ((xs : List LogBytes) × (text : List ℕ) × (logs ≡ Some xs)
+HandsBundle wanted bytes faulty logs old new count fault pair Length =
+    (fault ≡ 0) × (pair ≡ no_pair) × (faulty < 2 ^ 16)
+    × ((xs : List LogBytes) × (text : List ℕ) × (logs ≡ Some xs)
     × IsGathered wanted bytes (members_of faulty) xs text × PutsText text old new count Length)
-HandsBundle wanted bytes faulty logs old new count fault Fault =
+HandsBundle wanted bytes faulty logs old new count fault pair Fault =
     IsUntouched old new count × (faulty < 2 ^ 16)
     × ((xs : List LogBytes) × (f : GatherFault) × (logs ≡ Some xs)
-    × IsGatherFault wanted bytes (members_of faulty) xs f × (fault ≡ gather_number f))
-HandsBundle wanted bytes faulty logs old new count fault Memory =
-    (fault ≡ 0) × (faulty < 2 ^ 16) × IsUntouched old new count
-HandsBundle wanted bytes faulty logs old new count fault Misuse =
-    (fault ≡ 0) × IsUntouched old new count × ((2 ^ 16 ≤ faulty) ⊎ (logs ≡ None))
+    × IsGatherFault wanted bytes (members_of faulty) xs f
+    × (fault ≡ gather_number f) × (pair ≡ gather_pair f))
+HandsBundle wanted bytes faulty logs old new count fault pair Memory =
+    (fault ≡ 0) × (pair ≡ no_pair) × (faulty < 2 ^ 16) × IsUntouched old new count
+HandsBundle wanted bytes faulty logs old new count fault pair Misuse =
+    (fault ≡ 0) × (pair ≡ no_pair) × IsUntouched old new count × ((2 ^ 16 ≤ faulty) ⊎ (logs ≡ None))

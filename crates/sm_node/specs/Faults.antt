@@ -11,7 +11,7 @@ use Rattle.sm_node.specs.declared.faults.MakingFault.{MakingFault}
 use Rattle.sm_node.specs.declared.faults.MakingFault.TheVariants.{Broken, EqualRoots}
 use Rattle.sm_node.specs.declared.faults.SmPair.{SmPair}
 use Rattle.sm_node.specs.declared.faults.StartFault.{StartFault}
-use Rattle.sm_node.specs.declared.faults.StartFault.TheVariants.{Header, NoGeneral, OtherRoot}
+use Rattle.sm_node.specs.declared.faults.StartFault.TheVariants.{Header, NoGeneral, OtherRoot, OtherVersion, UsedSlot}
 use Rattle.sm_node.specs.declared.faults.GatherFault.{GatherFault}
 use Rattle.sm_node.specs.declared.faults.GatherFault.TheVariants as gathering
 
@@ -26,19 +26,24 @@ abbrev pub making_number : MakingFault → ℕ
 making_number (Broken f) = header_fault_number f
 making_number (EqualRoots a b) = 15
 
--- in place of two generals, where there are none; and the two generals that have the same root
+-- two generals, as they are told; in place of two where there are none; and the two that have the same root
+abbrev pub pair_of : ℕ → ℕ → SmPair
+pair_of a b = record { first = a; second = b }
+
 abbrev pub no_pair : SmPair
-no_pair = record { first = 0; second = 0 }
+no_pair = pair_of 0 0
 
 abbrev pub making_pair : MakingFault → SmPair
 making_pair (Broken f) = no_pair
-making_pair (EqualRoots a b) = record { first = a; second = b }
+making_pair (EqualRoots a b) = pair_of a b
 
--- the number of a fault of a start: that of the header's bytes, 13 or 14
+-- the number of a fault of a start: that of the header's bytes, 13, 14, 16 or 17
 abbrev pub start_number : StartFault → ℕ
 start_number (Header f) = bytes_number f
 start_number NoGeneral = 13
 start_number OtherRoot = 14
+start_number OtherVersion = 16
+start_number UsedSlot = 17
 
 -- the number of a frame's fault: 21 to 28, which is 20 more than its text has
 abbrev pub frame_number : FrameFault → ℕ
@@ -62,6 +67,13 @@ bundle_number bundles.LongLog = 50
 -- number of the fault of the header's bytes or of the bundle
 abbrev pub gather_number : GatherFault → ℕ
 gather_number (gathering.Header f) = bytes_number f
-gather_number gathering.NoWalk = 31
-gather_number gathering.LongWalk = 32
+gather_number (gathering.NoWalk pair) = 31
+gather_number (gathering.LongWalk pair) = 32
 gather_number (gathering.Bundle f) = bundle_number f
+
+-- the two generals that no walk joins, or none that is short enough
+abbrev pub gather_pair : GatherFault → SmPair
+gather_pair (gathering.Header f) = no_pair
+gather_pair (gathering.NoWalk pair) = pair
+gather_pair (gathering.LongWalk pair) = pair
+gather_pair (gathering.Bundle f) = no_pair

@@ -4,6 +4,7 @@ pub mod Driving
 pub mod Faults
 pub mod Handing
 pub mod Headers
+pub mod Heads
 pub mod NodeHandle
 pub mod Owning
 pub mod Plans

@@ -5,7 +5,7 @@ use Rattle.gen_types.specs.Bits.{bits_of}
 use Rattle.gen_types.specs.ChoiceOf.{choice_number}
 use Rattle.gen_net.specs.declared.version.Version.{Version}
 use Rattle.gen_net.specs.declared.version.Version.TheVariants.{One, Two}
-use Rattle.gen_net.specs.Header.{RunHeader, slot_of}
+use Rattle.gen_net.specs.Header.{RunHeader, run_id_of, slot_of}
 use Rattle.gen_net.specs.Network.{AreNeighbours, rounds}
 use Rattle.gen_net.specs.Version.{version_one, version_two}
 use Rattle.gen_plan.specs.Longest.{frame_most}
@@ -46,6 +46,10 @@ numbers_of h = record {
 -- the numbers of the header are told, or they stay as they were
 abbrev pub TellsNumbers : List ℕ → SmNumbers → SmNumbers → ℕ → NodeReply → Type 0
 TellsNumbers bytes old new fault told = TellsOf bytes (λ h. new ≡ numbers_of h) (new ≡ old) fault told
+
+-- the run id is told, or what was there stays
+abbrev pub TellsRunId : List ℕ → List ℕ → List ℕ → ℕ → NodeReply → Type 0
+TellsRunId bytes old new fault told = TellsOf bytes (λ h. new ≡ run_id_of h) (new ≡ old) fault told
 
 -- the number of rounds is told, or 0
 abbrev pub TellsRounds : List ℕ → ℕ → ℕ → NodeReply → Type 0

@@ -40,7 +40,7 @@ impl NodeHandle {
                 };
                 NodeReply::Done
             }
-            NodeHandle::Empty | NodeHandle::Ended(_) => NodeReply::Misuse,
+            NodeHandle::Empty | NodeHandle::Keys(_) | NodeHandle::Ended(_) => NodeReply::Misuse,
         }
     }
 }

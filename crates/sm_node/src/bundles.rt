@@ -3,7 +3,7 @@ ghost use Rattle.std.specs.Prelude.{◌≡◌, ◌<◌, ◌≤◌, IfOk, length}
 ghost use Rattle.gen_types.specs.Bits.{members_of};
 ghost use Rattle.sm_node.specs.Bundles as gathering;
 
-use crate::faults::GatherFault;
+use crate::faults::{GatherFault, NO_PAIR, SmPair, pair_of};
 use crate::handing::put;
 use crate::headers::header_in;
 use crate::starting::NUMBERS;
@@ -81,12 +81,12 @@ fn walks_of(
         (Ok(walks), _) => Ok(walks),
         (Err(WalkFault::Memory), _) => Err(ReadError::Memory),
         (Err(_), BundleWalks::BestOrNone) => Ok(Walks::new(alloc)),
-        (Err(WalkFault::NoWalk { .. }), BundleWalks::Best) => {
-            Err(ReadError::Fault(GatherFault::NoWalk))
-        }
-        (Err(WalkFault::TooLong { .. }), BundleWalks::Best) => {
-            Err(ReadError::Fault(GatherFault::LongWalk))
-        }
+        (Err(WalkFault::NoWalk { pair, .. }), BundleWalks::Best) => Err(ReadError::Fault(
+            GatherFault::NoWalk(pair_of(pair.a, pair.b)),
+        )),
+        (Err(WalkFault::TooLong { pair, .. }), BundleWalks::Best) => Err(ReadError::Fault(
+            GatherFault::LongWalk(pair_of(pair.a, pair.b)),
+        )),
     }
 }
 
@@ -102,12 +102,14 @@ pub(crate) fn hand_bundle(
     room: &mut [u8],
     count: &mut usize,
     fault: &mut u32,
+    apart: &mut SmPair,
 ) -> NodeReply
     ensures { gathering.HandsBundle wanted header.now faulty (gathering.logs_in logs.now bytes.now)
-        room.old room.new count.new fault.new result }
+        room.old room.new count.new fault.new apart.new result }
 {
     *count = 0;
     *fault = 0;
+    *apart = NO_PAIR;
     if faulty >= 1 << NUMBERS {
         return NodeReply::Misuse;
     }
@@ -130,6 +132,7 @@ pub(crate) fn hand_bundle(
         Err(ReadError::Memory) => return NodeReply::Memory,
         Err(ReadError::Fault(broken)) => {
             *fault = broken.number();
+            *apart = broken.pair();
             return NodeReply::Fault;
         }
     };

@@ -48,26 +48,31 @@ pub(crate) const NO_PAIR: SmPair = SmPair {
     second: 0,
 };
 
-/// Why there is no node of a header's bytes, a general, its order and its seed.
+/// Why there is no node of a header's bytes, a general, its order and its keys.
 #[derive(Clone, Copy, Debug, PartialEq, Eq)]
 pub enum StartFault {
     /// The bytes of the header have this fault.
     Header(BytesFault),
     /// The number is none of the header's generals, or the order doesn't fit the general.
     NoGeneral,
-    /// The root of the general's keys is not the root that the header has for it.
+    /// The root of the keys is not the root that the header has for the general.
     OtherRoot,
+    /// The keys are of another version than the header.
+    OtherVersion,
+    /// A node was made of the keys in the header's slot or in a later one.
+    UsedSlot,
 }
 
-/// Why there is no bundle of a header's bytes, the generals that are held for faulty, and logs.
+/// Why there is no bundle of a header's bytes, the generals that are held for faulty, and logs. A pair is the least of
+/// the generals that aren't held for faulty and have no walk that is short enough.
 #[derive(Clone, Copy, Debug, PartialEq, Eq)]
 pub enum GatherFault {
     /// The bytes of the header have this fault.
     Header(BytesFault),
-    /// No walk joins two of the generals that aren't held for faulty.
-    NoWalk,
-    /// The shortest walk between two of the generals that aren't held for faulty is too long.
-    LongWalk,
+    /// No walk joins this pair.
+    NoWalk(SmPair),
+    /// The shortest walk between this pair is too long.
+    LongWalk(SmPair),
     /// The bundle breaks this rule.
     Bundle(BundleFault),
 }
@@ -79,6 +84,16 @@ pub(crate) fn bytes_number(fault: BytesFault) -> u32
     match fault {
         BytesFault::BadHeader(inner) => u32::from(inner.number()),
         BytesFault::LeftOver => 12,
+    }
+}
+
+/// Returns two generals as they are told.
+pub(crate) fn pair_of(a: GeneralNo, b: GeneralNo) -> SmPair
+    ensures { result ≡ numbers.pair_of a b }
+{
+    SmPair {
+        first: u32::from(a.get()),
+        second: u32::from(b.get()),
     }
 }
 
@@ -99,16 +114,13 @@ impl MakingFault {
     {
         match *self {
             MakingFault::Broken(_) => NO_PAIR,
-            MakingFault::EqualRoots { a, b } => SmPair {
-                first: u32::from(a.get()),
-                second: u32::from(b.get()),
-            },
+            MakingFault::EqualRoots { a, b } => pair_of(a, b),
         }
     }
 }
 
 impl StartFault {
-    /// Returns the number of the fault, 1 to 14.
+    /// Returns the number of the fault: 1 to 14, 16 or 17.
     pub(crate) fn number(self) -> u32
         ensures { result ≡ numbers.start_number self }
     {
@@ -116,6 +128,8 @@ impl StartFault {
             StartFault::Header(inner) => bytes_number(inner),
             StartFault::NoGeneral => 13,
             StartFault::OtherRoot => 14,
+            StartFault::OtherVersion => 16,
+            StartFault::UsedSlot => 17,
         }
     }
 }
@@ -127,8 +141,8 @@ impl GatherFault {
     {
         match self {
             GatherFault::Header(inner) => bytes_number(inner),
-            GatherFault::NoWalk => 31,
-            GatherFault::LongWalk => 32,
+            GatherFault::NoWalk(_) => 31,
+            GatherFault::LongWalk(_) => 32,
             GatherFault::Bundle(BundleFault::Truncated) => 41,
             GatherFault::Bundle(BundleFault::UnknownMark) => 42,
             GatherFault::Bundle(BundleFault::BadHeader(inner)) => u32::from(inner.number()),
@@ -139,6 +153,18 @@ impl GatherFault {
             GatherFault::Bundle(BundleFault::LeftOver) => 48,
             GatherFault::Bundle(BundleFault::OutOfOrder) => 49,
             GatherFault::Bundle(BundleFault::LongLog) => 50,
+        }
+    }
+
+    /// Returns the pair that has no walk that is short enough; 0 and 0 for another fault.
+    pub(crate) fn pair(self) -> SmPair
+        ensures { result ≡ numbers.gather_pair self }
+    {
+        match self {
+            GatherFault::NoWalk(pair) => pair,
+            GatherFault::LongWalk(pair) => pair,
+            GatherFault::Header(_) => NO_PAIR,
+            GatherFault::Bundle(_) => NO_PAIR,
         }
     }
 }

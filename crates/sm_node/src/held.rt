@@ -9,6 +9,7 @@ use crate::told::NodeReply;
 use gen_log::SealedLog;
 use gen_node::{Node, NodeEnd};
 use gen_scenario::Decision;
+use gen_tree::KeyTree;
 use gen_types::{GeneralNo, ReadError};
 use std::alloc::Global;
 use std::mem::replace;
@@ -22,10 +23,21 @@ pub struct EndedNode {
     pub decision: Decision,
 }
 
+/// The tree of a seed's keys, of which nodes are made in one slot after another.
+#[derive(Drop)]
+pub struct SlotKeys {
+    /// The tree.
+    pub tree: KeyTree,
+    /// The least slot in which a node may still be made of the keys.
+    pub least: u8,
+}
+
 /// What the memory of a node for C holds.
 pub enum NodeHandle {
     /// Nothing yet.
     Empty,
+    /// Keys.
+    Keys(SlotKeys),
     /// A node that has not ended.
     Running(Node),
     /// What is left of a node that has ended.
@@ -36,6 +48,7 @@ impl Drop for NodeHandle {
     fn drop(self) {
         match self {
             NodeHandle::Empty => {}
+            NodeHandle::Keys(_) => {}
             NodeHandle::Running(node) => {
                 let ring = node.close();
                 ring.close();
@@ -60,7 +73,7 @@ impl NodeHandle {
                     Err(_) => NodeReply::Memory,
                 }
             }
-            NodeHandle::Empty | NodeHandle::Ended(_) => NodeReply::Misuse,
+            NodeHandle::Empty | NodeHandle::Keys(_) | NodeHandle::Ended(_) => NodeReply::Misuse,
         }
     }
 
@@ -78,7 +91,7 @@ impl NodeHandle {
                     Err(_) => NodeReply::Memory,
                 }
             }
-            NodeHandle::Empty | NodeHandle::Ended(_) => NodeReply::Misuse,
+            NodeHandle::Empty | NodeHandle::Keys(_) | NodeHandle::Ended(_) => NodeReply::Misuse,
         }
     }
 
@@ -125,7 +138,7 @@ impl NodeHandle {
                     NodeReply::Fault
                 }
             },
-            NodeHandle::Empty | NodeHandle::Ended(_) => NodeReply::Misuse,
+            NodeHandle::Empty | NodeHandle::Keys(_) | NodeHandle::Ended(_) => NodeReply::Misuse,
         }
     }
 
@@ -135,7 +148,7 @@ impl NodeHandle {
     {
         match self {
             NodeHandle::Running(node) => Some(node),
-            NodeHandle::Empty | NodeHandle::Ended(_) => None,
+            NodeHandle::Empty | NodeHandle::Keys(_) | NodeHandle::Ended(_) => None,
         }
     }
 
@@ -178,7 +191,7 @@ impl NodeHandle {
         *count = 0;
         match self {
             NodeHandle::Ended(ending) => put(ending.log.bytes(), room, count),
-            NodeHandle::Empty | NodeHandle::Running(_) => NodeReply::Misuse,
+            NodeHandle::Empty | NodeHandle::Keys(_) | NodeHandle::Running(_) => NodeReply::Misuse,
         }
     }
 
@@ -192,7 +205,7 @@ impl NodeHandle {
                 *order = u32::from(ending.decision.order.get());
                 NodeReply::Done
             }
-            NodeHandle::Empty | NodeHandle::Running(_) => NodeReply::Misuse,
+            NodeHandle::Empty | NodeHandle::Keys(_) | NodeHandle::Running(_) => NodeReply::Misuse,
         }
     }
 }

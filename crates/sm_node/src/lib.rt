@@ -1,7 +1,7 @@
 //! The library of nodes for C: one general of a run, driven by a program in another language.
 //!
-//! A node is opaque to the caller: one pointer, which is null if there is no node. Each function returns one of these
-//! numbers.
+//! A node is opaque to the caller: one pointer, which is null if there is no node. So are the keys that nodes are made of.
+//! Each function returns one of these numbers.
 //!
 //! | number | what it says |
 //! |---|---|
@@ -17,12 +17,13 @@
 
 ghost use Rattle.std.specs.Prelude.{◌≡◌, ◌<◌, ◌≤◌, None};
 ghost use Rattle.sm_node.specs.Asking.{Tells};
-ghost use Rattle.sm_node.specs.Bundles.{HandsBundle, logs_in};
+ghost use Rattle.sm_node.specs.Bundles.{HandsBundle, logs_in, walks_by};
 ghost use Rattle.sm_node.specs.Driving.{Begins, Ends, Finishes, HandsLog, Hears, Sends, TellsOrder};
 ghost use Rattle.sm_node.specs.Handing.{IsUntouched};
 ghost use Rattle.sm_node.specs.Headers.{header_given, MakesHeader};
-ghost use Rattle.sm_node.specs.Plans.{TellsMost, TellsNeighbours, TellsNumbers, TellsRounds};
-ghost use Rattle.sm_node.specs.Starting.{Starts, WritesRoot};
+ghost use Rattle.sm_node.specs.Heads.{TellsHead};
+ghost use Rattle.sm_node.specs.Plans.{TellsMost, TellsNeighbours, TellsNumbers, TellsRounds, TellsRunId};
+ghost use Rattle.sm_node.specs.Starting.{MakesKeys, Starts};
 ghost use Rattle.sm_node.specs.NodeReply.{IsTold};
 
 mod asking;
@@ -30,6 +31,7 @@ mod bundles;
 mod faults;
 mod handing;
 mod headers;
+mod heads;
 mod held;
 mod loose;
 mod opaque;
@@ -41,26 +43,29 @@ use crate::asking::{Question, ask};
 use crate::bundles::{BundleWalks, SmLog, hand_bundle};
 use crate::faults::SmPair;
 use crate::headers::{SmNumbers, make_header};
+use crate::heads::{SmFrameHead, tell_head};
 use crate::opaque::SmNode;
 use crate::plans::{numbers_of, with_header};
-use crate::starting::{NUMBERS, start, write_root};
+use crate::starting::{NUMBERS, make_keys, start};
 use crate::told::MISUSE;
 use gen_net::Header;
 use gen_plan::frame_most;
 use gen_types::GeneralNo;
 use std::alloc::Global;
 
-/// Writes the root of the tree of keys that a seed makes, for headers of version 1 or 2. Any other version is misuse.
+/// Makes the keys of a seed, for headers of version 1 or 2, in a place that holds nothing, and writes their root. Any
+/// other version is misuse.
 #[unsafe(no_mangle)]
-pub extern "C" fn sm_node_root(
+pub extern "C" fn sm_node_keys(
     alloc: Global,
+    keys: &mut SmNode,
     seed: &[u8; 32],
     version: u32,
     root: &mut [u8; 32],
 ) -> u32
-    ensures { IsTold (WritesRoot seed.now version root.old root.new) result }
+    ensures { IsTold (MakesKeys seed.now version keys.old.held keys.new.held root.old root.new) result }
 {
-    write_root(alloc, seed, version, root).status()
+    make_keys(alloc, keys, seed, version, root).status()
 }
 
 /// Hands out the bytes of the header of these numbers, edges and roots. The edges come in any order and direction, the
@@ -82,21 +87,23 @@ pub extern "C" fn sm_node_header(
     make_header(alloc, numbers, edges, roots, room, count, fault, equal).status()
 }
 
-/// Makes a node of a header's bytes, a general, its seed and its order, in a place that holds no node; 255 says that
-/// the general has no order. It is misuse if the place holds a node, or if a number is no general's or no order's.
+/// Makes a node of a header's bytes, a general, its keys and its order, in a place that holds nothing; 255 says that the
+/// general has no order. It is misuse if the place holds something, if there are no keys, or if a number is no general's
+/// or no order's. The keys then serve later slots alone.
 #[unsafe(no_mangle)]
 pub extern "C" fn sm_node_new(
     alloc: Global,
     node: &mut SmNode,
     header: &[u8],
     general: u32,
-    seed: &[u8; 32],
+    keys: &mut SmNode,
     own: u32,
     fault: &mut u32,
 ) -> u32
-    ensures { IsTold (Starts header.now general seed.now own node.old.held node.new.held fault.new) result }
+    ensures { IsTold (Starts header.now general own keys.old.held keys.new.held
+        node.old.held node.new.held fault.new) result }
 {
-    start(alloc, node, header, general, seed, own, fault).status()
+    start(alloc, node, header, general, keys, own, fault).status()
 }
 
 /// Begins the next round. If memory is refused, a further call goes on with it.
@@ -200,7 +207,7 @@ pub extern "C" fn sm_node_order(alloc: Global, node: &mut SmNode, decided: &mut 
         .status()
 }
 
-/// Frees what a node holds, at any time, so that there is no node. An open ring of keys is closed.
+/// Frees what a node holds, or keys, at any time, so that nothing is held. An open ring of keys is closed.
 #[unsafe(no_mangle)]
 pub extern "C" fn sm_node_free(alloc: Global, node: &mut SmNode)
     ensures { node.new.held ≡ None }
@@ -213,43 +220,33 @@ pub extern "C" fn sm_node_free(alloc: Global, node: &mut SmNode)
 /// Hands out the bytes of the bundle of a run. Its parts are the header's bytes, the set of the generals that are held
 /// for faulty (bit g for general g), walks between the others, and the collected logs. The logs stand one after another
 /// in `bytes`, in ascending order of their generals. It is misuse if the set has a general above 15, or if `bytes` are
-/// not exactly these logs.
+/// not exactly these logs. If two generals that aren't held for faulty have no short walk, the least such pair is told;
+/// but if `parted` is not 0, the bundle then has no walks. The audit finds that.
 #[unsafe(no_mangle)]
 pub extern "C" fn sm_node_bundle(
     alloc: Global,
     header: &[u8],
     faulty: u32,
+    parted: u32,
     logs: &[SmLog],
     bytes: &[u8],
     room: &mut [u8],
     count: &mut usize,
     fault: &mut u32,
+    apart: &mut SmPair,
 ) -> u32
-    ensures { IsTold (HandsBundle BundleWalks.Best header.now faulty (logs_in logs.now bytes.now)
-        room.old room.new count.new fault.new) result }
+    ensures { IsTold (HandsBundle (walks_by parted) header.now faulty (logs_in logs.now bytes.now)
+        room.old room.new count.new fault.new apart.new) result }
 {
-    let kind = BundleWalks::Best;
-    hand_bundle(alloc, kind, header, faulty, logs, bytes, room, count, fault).status()
-}
-
-/// Hands out the bytes of the bundle of a run, as `sm_node_bundle` does, but if two generals that aren't held for faulty have
-/// no short walk, the bundle has no walks. The audit then finds that.
-#[unsafe(no_mangle)]
-pub extern "C" fn sm_node_bundle_parted(
-    alloc: Global,
-    header: &[u8],
-    faulty: u32,
-    logs: &[SmLog],
-    bytes: &[u8],
-    room: &mut [u8],
-    count: &mut usize,
-    fault: &mut u32,
-) -> u32
-    ensures { IsTold (HandsBundle BundleWalks.BestOrNone header.now faulty (logs_in logs.now bytes.now)
-        room.old room.new count.new fault.new) result }
-{
-    let kind = BundleWalks::BestOrNone;
-    hand_bundle(alloc, kind, header, faulty, logs, bytes, room, count, fault).status()
+    let wanted = if parted == 0 {
+        BundleWalks::Best
+    } else {
+        BundleWalks::BestOrNone
+    };
+    hand_bundle(
+        alloc, wanted, header, faulty, logs, bytes, room, count, fault, apart,
+    )
+    .status()
 }
 
 /// Returns the number of the version of this library: 1000000 times the first number, 1000 times the second, and the
@@ -288,6 +285,28 @@ pub extern "C" fn sm_node_rounds(
     *rounds = 0;
     let mut tell = |found: &Header| *rounds = u32::from(found.net().rounds());
     with_header(alloc, header, fault, &mut tell).status()
+}
+
+/// Tells the run id of the header that the bytes are.
+#[unsafe(no_mangle)]
+pub extern "C" fn sm_node_run_id(
+    alloc: Global,
+    header: &[u8],
+    run_id: &mut [u8; 32],
+    fault: &mut u32,
+) -> u32
+    ensures { IsTold (TellsRunId header.now run_id.old run_id.new fault.new) result }
+{
+    let mut tell = |found: &Header| *run_id = *found.run_id();
+    with_header(alloc, header, fault, &mut tell).status()
+}
+
+/// Tells what the head of a frame says: its run, its round, its sender, its receiver and the number of its parcels.
+#[unsafe(no_mangle)]
+pub extern "C" fn sm_node_frame_head(frame: &[u8], head: &mut SmFrameHead, fault: &mut u32) -> u32
+    ensures { IsTold (TellsHead frame.now head.old head.new fault.new) result }
+{
+    tell_head(frame, head, fault).status()
 }
 
 /// Tells the most bytes of a frame of a node that follows the algorithm, in a run of the header that the bytes are.

@@ -75,7 +75,7 @@ class Refused(unittest.TestCase):
         cases = [(vamuretu.audit, bundle), (vamuretu.draw, bundle), (vamuretu.accuse, 0, bundle)]
         cases += [(vamuretu.evidence, found), (vamuretu.decide, scenario), (vamuretu.show, bundle), (vamuretu.show, found)]
         cases += [(vamuretu.show_json, bundle), (vamuretu.show_json, found)]
-        cases += [(vamuretu.explain, "K2"), (vamuretu.words, b"verdict no\n")]
+        cases += [(vamuretu.explain, "K2"), (vamuretu.words, b"verdict no\n"), (vamuretu.plan, bundle)]
         cases += [(vamuretu.audit_json, bundle), (vamuretu.evidence_json, found), (vamuretu.decide_json, scenario)]
         cases += [(vamuretu.run_ids, it) for it in (bundle, found, vamuretu.evidence(found).header.data)]
         for call, *words in cases:

@@ -20,9 +20,9 @@ def ended(call, *words):
 
 
 def told(words, given):
-    """The same of the reference."""
+    """The same of the reference. The library tells the first line of a fault alone, and no object of it."""
     status, wrote, said = answer(tuple(words), given)
-    return said.decode().rstrip("\n") if status == 3 else wrote.decode("latin-1")
+    return said.decode().partition("\n")[0] if status == 3 else wrote.decode("latin-1")
 
 
 @needs("sm_embed")
@@ -73,10 +73,20 @@ class Jobs(unittest.TestCase):
                     self.assertEqual(ended(call, given), told([name, "--json"], given))
         found, bundle = ((EXAMPLES / name).read_bytes() for name in ("split.evidence", "split.bundle"))
         own, = vamuretu.run_ids(bundle)
-        self.assertEqual(vamuretu.audit_json(bundle, runs=[own]), vamuretu.audit_json(bundle))
+        self.assertEqual(vamuretu.audit_json(bundle, runs=[own]), told(["audit", "--json", "--run", own], bundle))
         self.assertEqual(vamuretu.evidence_json(found, run=own), vamuretu.evidence_json(found))
         self.assertRaises(vamuretu.OtherRun, vamuretu.audit_json, bundle, runs=["0" * 64])
         self.assertRaises(vamuretu.OtherRun, vamuretu.evidence_json, found, run="0" * 64)
+
+    def test_plan(self):
+        header = ALL.header().data
+        line = {"generals": 3, "traitors": 1, "diameter": 2, "orders": 2, "edges": [(0, 1), (1, 2)]}
+        cut = vamuretu.header(version=2, slot=1, roots=[bytes([root] * 32) for root in range(3)], **line).data
+        for given in (header, cut, header[:-1], header + b"\0", b"", *(path.read_bytes() for path in SMALL)):
+            got = ended(vamuretu.plan, given)
+            status, wrote, _ = answer(("plan",), given)
+            self.assertEqual(got, told(["plan"], given) if status == 3 else (status == 0, wrote.decode()))
+        self.assertEqual(vamuretu.plan(cut)[1].splitlines()[:3], ["plan fails", "without 1", "pair 0 2"])
 
     def test_series(self):
         given = (EXAMPLES / "series.bundles").read_bytes()

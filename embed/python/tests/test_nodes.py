@@ -8,7 +8,7 @@ import unittest
 import warnings
 
 import vamuretu
-from vamuretu import EqualRoots, InputFault, Misuse, Node, NodeFault
+from vamuretu import EqualRoots, FrameHead, InputFault, Keys, Misuse, Node, NodeFault, NoWalk
 
 from .support import ALL, RING, answer, drive, exhibits_of, needs, seed_of
 
@@ -134,6 +134,36 @@ class Calls(unittest.TestCase):
         for sender in (16, 1 << 32, -1):
             self.assertRaises(Misuse, hear, sender, frame)
 
+    def test_keys(self):
+        headers = [RING._replace(slot=slot).header() for slot in (0, 1, 3)]
+        with Keys(seed_of(1), 2) as keys:
+            self.assertEqual(keys.root, headers[0].roots[1])
+            for header, name in zip([*headers[1:], *headers], [None, None, "USED_SLOT", "USED_SLOT", "USED_SLOT"]):
+                with self.subTest(header.slot):
+                    if name is None:
+                        Node(header, 1, keys).close()
+                    else:
+                        self.assertEqual(fault_of(Node, header, 1, keys), NodeFault[name])
+        self.assertRaises(Misuse, Node, headers[0], 1, keys)
+        with Keys(seed_of(1), 1) as keys:
+            self.assertEqual(fault_of(Node, headers[0], 1, keys), NodeFault.OTHER_VERSION)
+            Node(self.header, 1, keys).close()
+            self.assertRaises(TypeError, copy.copy, keys)
+        with self.assertWarns(ResourceWarning):
+            Keys(seed_of(1), 1)
+
+    def test_heads(self):
+        for node in self.nodes:
+            node.begin_round()
+        frame = self.nodes[0].send(1)
+        head = FrameHead(self.header.run_id, 1, 0, 1, 1)
+        for given in (frame, bytearray(frame[:41])):
+            self.assertEqual(vamuretu.frame_head(given), head)
+        self.assertEqual(vamuretu.frame_head(self.nodes[1].send(0)), FrameHead(self.header.run_id, 1, 1, 0, 0))
+        for given, name in ((b"", "F3"), (frame[:40], "F3"), (b"SMF2" + frame[4:], "F4")):
+            with self.subTest(name):
+                self.assertEqual(fault_of(vamuretu.frame_head, given), NodeFault[name])
+
     def test_bundles(self):
         cases = [({4}, [], "B4"), ((), [(4, b"")], "B7"), ((), [(1, b""), (0, b"")], "B9")]
         for faulty, logs, name in cases:
@@ -147,9 +177,11 @@ class Calls(unittest.TestCase):
 
     def test_walks(self):
         line = {"generals": 3, "traitors": 0, "diameter": 1, "orders": 2, "edges": [(0, 1), (1, 2)]}
-        header = vamuretu.header(version=1, roots=[bytes(32)] * 3, **line)
-        self.assertEqual(fault_of(vamuretu.bundle, header, [1], []), NodeFault.U1)
-        self.assertEqual(fault_of(vamuretu.bundle, header, [], []), NodeFault.U2)
+        header = vamuretu.header(version=1, roots=[bytes([it]) * 32 for it in range(3)], **line)
+        for faulty, number in (([1], NodeFault.U1), ([], NodeFault.U2)):
+            with self.assertRaises(NoWalk) as caught:
+                vamuretu.bundle(header, faulty, [])
+            self.assertEqual((caught.exception.number, caught.exception.generals), (number, (0, 2)))
         self.assertEqual(vamuretu.read_header(header.data), header)
         for faulty in ([1], []):
             made = vamuretu.bundle(header, faulty, [], parted=True)

@@ -57,11 +57,20 @@ class Verdicts(unittest.TestCase):
         self.assertIsInstance(verdict, CampaignVerdict)
         self.assertEqual((str(verdict), verdict.convictions[0].runs, verdict.is_no), (text, (0, 1), False))
 
+    def test_equal_roots(self):
+        run = f"{RUN}verdict agreed 1\nend\n"
+        for front in (run, f"campaign 2\n{run}{run}end campaign\n"):
+            self.assertEqual(read_verdict(front).equal_roots, ())
+            text = f"{front}equal roots 0 2\nequal roots 14 15\n"
+            verdict = read_verdict(text)
+            self.assertEqual((verdict.equal_roots, str(verdict)), (((0, 2), (14, 15)), text))
+
     def test_other_texts(self):
         good = f"{RUN}verdict agreed 0\nend\n"
         bad = ["", good[:-1], good + "\n", good.replace("0a", "0A"), good.replace(" 0\n", " 00\n"), good[1:]]
         bad += [good.replace("agreed 0", "no 0"), good.replace("end", "N11\nend"), f"campaign 2\n{good}end campaign\n"]
         bad += [good.replace("end", "convicted 0 by K5\nend"), f"campaign 1\n{good}", good.replace(" ", "  ")]
+        bad += [f"{good}equal roots 0\n", f"{good}equal roots 0 1\nend\n", f"equal roots 0 1\n{good}"]
         for text in bad:
             with self.subTest(text), self.assertRaises(ValueError):
                 read_verdict(text)

@@ -4,12 +4,12 @@ The work is done by two shared libraries, libsm_embed.so and libsm_node.so, whic
 says where they are looked for, and docs/EMBED.md of the sources what each call does.
 """
 
-from ._faults import EqualRoots, InputFault, LibraryMissing, Misuse, NodeFault, OtherRun
-from ._headers import Header, header, read_header, root
+from ._faults import EqualRoots, InputFault, LibraryMissing, Misuse, NodeFault, NoWalk, OtherRun
+from ._headers import Header, header, read_header
 from ._jobs import Evidence, accuse, audit, audit_json, decide, decide_json, draw, evidence, evidence_json, explain
 from ._jobs import plan, refute, run_ids, show, show_json, words
 from ._libraries import use_libraries, version
-from ._nodes import Node, bundle
+from ._nodes import FrameHead, Keys, Node, bundle, frame_head, root
 from ._texts import (
     AcrossConviction,
     CampaignVerdict,
@@ -32,12 +32,15 @@ __all__ = [
     "EqualRoots",
     "Evidence",
     "Finding",
+    "FrameHead",
     "Header",
     "InputFault",
     "Judgement",
+    "Keys",
     "Kind",
     "LibraryMissing",
     "Misuse",
+    "NoWalk",
     "Node",
     "NodeFault",
     "OtherRun",
@@ -53,6 +56,7 @@ __all__ = [
     "evidence",
     "evidence_json",
     "explain",
+    "frame_head",
     "header",
     "plan",
     "read_decisions",

@@ -25,9 +25,13 @@ class NodeFault(enum.IntEnum):
     NO_GENERAL = 13
     """The number is none of the header's nodes (generals), or the value (order) does not fit the node."""
     OTHER_ROOT = 14
-    """The header has another root for the node than that of the seed's keys."""
+    """The header has another root for the node than that of the keys."""
     EQUAL_ROOTS = 15
     """Two nodes have the same root."""
+    OTHER_VERSION = 16
+    """The keys are of another version than the header."""
+    USED_SLOT = 17
+    """A node was made of the keys in the slot of the header, or in a later one."""
     F1 = 21
     F2 = 22
     F3 = 23
@@ -72,8 +76,10 @@ _TEXTS = {
     NodeFault.H11: "the slot is above 3",
     NodeFault.LEFT_OVER: "bytes are left over behind the header",
     NodeFault.NO_GENERAL: "the number is none of the header's generals, or the order does not fit the general",
-    NodeFault.OTHER_ROOT: "the header has another root for the general than that of the seed's keys",
+    NodeFault.OTHER_ROOT: "the header has another root for the general than that of the keys",
     NodeFault.EQUAL_ROOTS: "two generals have the same root",
+    NodeFault.OTHER_VERSION: "the keys are of another version than the header",
+    NodeFault.USED_SLOT: "a node was made of the keys in the slot of the header, or in a later one",
     NodeFault.F1: "no frame of this general is awaited",
     NodeFault.F2: "the frame of this general was taken before",
     NodeFault.F3: "the bytes end before the frame does",
@@ -122,6 +128,19 @@ class EqualRoots(InputFault):
 
     def __reduce__(self) -> Tuple[type, Tuple[int, int]]:
         return EqualRoots, self.generals
+
+
+class NoWalk(InputFault):
+    """Two nodes (generals) that are not held for faulty have no walk (U1), or none of at most d edges (U2). `generals` are
+    the two, the lesser one first. No lesser pair has.
+    """
+
+    def __init__(self, number: NodeFault, first: int, second: int) -> None:
+        super().__init__(f"fault {number.name}", number)
+        self.generals: Tuple[int, int] = (first, second)
+
+    def __reduce__(self) -> Tuple[type, Tuple[Optional[NodeFault], int, int]]:
+        return NoWalk, (self.number, *self.generals)
 
 
 class OtherRun(InputFault):

@@ -7,7 +7,7 @@ import hashlib
 from dataclasses import dataclass
 from typing import FrozenSet, Iterable, Optional, Sequence, Tuple
 
-from ._faults import EqualRoots, InputFault, Misuse, NodeFault
+from ._faults import EqualRoots, InputFault, Misuse, NodeFault, NoWalk
 from ._libraries import NODES, Bytes, Call, Numbers, Pair, as_bytes, exactly, library, number, written
 
 DONE, MISUSE, BAD, REFUSED = 0, 2, 3, 4
@@ -83,25 +83,20 @@ def must(status: int, call: str, told: Optional[ctypes.c_uint32] = None) -> None
         raise Misuse(f"{call} is not allowed here")
 
 
-def made(name: str, words: Sequence[object], room: int, *more: object) -> bytes:
-    """The bytes that a call makes which has no node, sm_node_header or sm_node_bundle. More is told behind the fault."""
-    told = ctypes.c_uint32(0)
+def made(name: str, words: Sequence[object], room: int) -> bytes:
+    """The bytes that a call makes which has no node, sm_node_header or sm_node_bundle. If the fault is of two nodes, they are
+    told.
+    """
+    told, pair = ctypes.c_uint32(0), Pair()
     function = getattr(library(NODES), name)
-    call: Call = lambda *ends: int(function(*words, *ends, ctypes.byref(told), *more))
+    call: Call = lambda *ends: int(function(*words, *ends, ctypes.byref(told), ctypes.byref(pair)))
     status, data = written(call, room)
+    if status == BAD and told.value == NodeFault.EQUAL_ROOTS:
+        raise EqualRoots(pair.first, pair.second)
+    if status == BAD and told.value in (NodeFault.U1, NodeFault.U2):
+        raise NoWalk(NodeFault(told.value), pair.first, pair.second)
     must(status, name, told)
     return data
-
-
-def root(seed: Bytes, version: int) -> bytes:
-    """The root of the keys that a seed makes, for headers of version 1 or 2. Misuse for another version.
-
-    A seed is 32 secret bytes, as of secrets.token_bytes(32).
-    """
-    made_root = ctypes.create_string_buffer(ROOT_BYTES)
-    function = library(NODES).sm_node_root
-    must(function(exactly(32, seed, "a seed"), number(version, 1 << 32, "version"), made_root), "sm_node_root")
-    return made_root.raw
 
 
 def header(
@@ -125,14 +120,7 @@ def header(
     ends = [number(end, 256, "an end of an edge") for a, b in edges for end in (a, b)]
     keys = [exactly(ROOT_BYTES, it, "a root") for it in roots]
     words = [ctypes.byref(Numbers(*told)), bytes(ends), len(ends) // 2, b"".join(keys), len(keys)]
-    equal = Pair()
-    try:
-        data = made("sm_node_header", words, 8 + len(ends) + ROOT_BYTES * len(keys), ctypes.byref(equal))
-    except InputFault as fault:
-        if fault.number is not NodeFault.EQUAL_ROOTS:
-            raise
-        raise EqualRoots(equal.first, equal.second) from None
-    return after_mark(data, 0)
+    return after_mark(made("sm_node_header", words, 8 + len(ends) + ROOT_BYTES * len(keys)), 0)
 
 
 def read_header(data: Bytes) -> Header:

@@ -41,6 +41,13 @@ class Pair(ctypes.Structure):
     _fields_ = [("first", c_uint32), ("second", c_uint32)]
 
 
+class FrameHead(ctypes.Structure):
+    """`sm_frame_head`."""
+
+    _names = ("round", "sender", "receiver", "parcel_count")
+    _fields_ = [("run_id", ctypes.c_uint8 * 32), *((name, c_uint32) for name in _names)]
+
+
 # A text that is read is a pointer and a length. One that is written has a count besides. An answer is one pointer.
 _READ: List[Any] = [c_char_p, c_size_t]
 _WRITTEN: List[Any] = [c_char_p, c_size_t, POINTER(c_size_t)]
@@ -76,9 +83,9 @@ _ENDS: Dict[str, Dict[str, List[Any]]] = {
         "sm_version": [],
     },
     NODES: {
-        "sm_node_root": [c_char_p, c_uint32, c_char_p],
+        "sm_node_keys": _NODE + [c_char_p, c_uint32, c_char_p],
         "sm_node_header": [POINTER(Numbers)] + _READ + _READ + _WRITTEN + _FAULT + [POINTER(Pair)],
-        "sm_node_new": _NODE + _READ + [c_uint32, c_char_p, c_uint32] + _FAULT,
+        "sm_node_new": _NODE + _READ + [c_uint32] + _NODE + [c_uint32] + _FAULT,
         "sm_node_begin_round": _NODE,
         "sm_node_send": _NODE + [c_uint32] + _WRITTEN,
         "sm_node_hear": _NODE + [c_uint32] + _READ + _FAULT,
@@ -87,12 +94,18 @@ _ENDS: Dict[str, Dict[str, List[Any]]] = {
         "sm_node_log": _NODE + _WRITTEN,
         "sm_node_order": _NODE + [POINTER(c_uint32)],
         "sm_node_free": _NODE,
-        "sm_node_bundle": _READ + [c_uint32, POINTER(LogOf), c_size_t] + _READ + _WRITTEN + _FAULT,
-        "sm_node_bundle_parted": _READ + [c_uint32, POINTER(LogOf), c_size_t] + _READ + _WRITTEN + _FAULT,
+        "sm_node_bundle": _READ
+        + [c_uint32, c_uint32, POINTER(LogOf), c_size_t]
+        + _READ
+        + _WRITTEN
+        + _FAULT
+        + [POINTER(Pair)],
         "sm_node_header_numbers": _READ + [POINTER(Numbers)] + _FAULT,
         "sm_node_rounds": _READ + [POINTER(c_uint32)] + _FAULT,
         "sm_node_neighbours": _READ + [c_uint32, POINTER(c_uint32)] + _FAULT,
         "sm_node_frame_most": _READ + [POINTER(c_size_t)] + _FAULT,
+        "sm_node_run_id": _READ + [c_char_p] + _FAULT,
+        "sm_node_frame_head": _READ + [POINTER(FrameHead)] + _FAULT,
         "sm_node_round": _NODE + [POINTER(c_uint32)],
         "sm_node_awaits": _NODE + [c_uint32, POINTER(c_uint32)],
         "sm_node_lacks": _NODE + [c_uint32, POINTER(c_uint32)],

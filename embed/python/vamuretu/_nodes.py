@@ -6,12 +6,14 @@ import ctypes
 import os
 import threading
 import warnings
+from dataclasses import dataclass
 from types import TracebackType
-from typing import Iterable, List, NoReturn, Optional, Tuple, Type
+from typing import Iterable, List, NoReturn, Optional, Tuple, Type, TypeVar, Union
 
 from ._faults import Misuse
-from ._headers import Header, made, must
+from ._headers import ROOT_BYTES, Header, made, must
 from ._libraries import NODES, Bytes, LogOf, as_bytes, exactly, library, number, written
+from ._libraries import FrameHead as Told
 
 # In place of an order: the node has none.
 NO_ORDER = 255
@@ -20,43 +22,111 @@ MOST_WALKS, WALK_BYTES, LOG_FRONT = 120, 17, 5
 FIRST_ROOM = 1 << 12
 
 
-class Node:
-    """A node (general) of a run. The commander, general 0, has a value (order), and no other node has one.
+_Own = TypeVar("_Own", bound="_Held")
 
-    In version 1 a seed makes one node ever, and in version 2 one in each slot: a second one would sign again, which
-    gives away secrets of its keys. So first put on the disk that the seed, or the slot, is used.
 
-    In each round call begin_round(), then send() and hear() for each neighbour, then end_round(); after the last round
-    finish(). A call in another order is Misuse. After a MemoryError the same call may be made again: nothing is signed
-    twice.
-
-    Any thread may call: a node takes one call at a time. Calls from another process than that which made the node are
-    Misuse. A node is closed by close() or at the end of its `with`.
+class _Held:
+    """What the library holds behind one pointer: a node, or keys. Any thread may call: it takes one call at a time. Calls
+    from another process than that which made it are Misuse. It is closed by close() or at the end of its `with`.
     """
 
-    def __init__(self, header: Header, general: int, seed: Bytes, order: Optional[int] = None) -> None:
-        self._node = ctypes.c_void_p(None)
+    def __init__(self, what: str) -> None:
+        self._place = ctypes.c_void_p(None)
         self._maker = os.getpid()
         self._one_at_a_time = threading.Lock()
-        self.header = header
-        self.general = number(general, GENERALS, "general")
-        own = NO_ORDER if order is None else number(order, ORDERS, "order")
-        told, key = ctypes.c_uint32(0), ctypes.create_string_buffer(exactly(32, seed, "a seed"), 32)
-        words = (header.data, len(header.data), self.general, key, own, ctypes.byref(told))
-        try:
-            must(library(NODES).sm_node_new(ctypes.byref(self._node), *words), "sm_node_new", told)
-        finally:
-            ctypes.memset(key, 0, 32)
+        self._what = what
 
     def _is_here(self) -> bool:
         return self._maker == os.getpid()
 
     def _call(self, name: str, *words: object) -> int:
-        """The status of a call on the node."""
+        """The status of a call on what is held."""
         if not self._is_here():
-            raise Misuse(f"{name} is called by another process than that which made the node")
+            raise Misuse(f"{name} is called by another process than that which made {self._what}")
         with self._one_at_a_time:
-            return int(getattr(library(NODES), name)(ctypes.byref(self._node), *words))
+            return int(getattr(library(NODES), name)(ctypes.byref(self._place), *words))
+
+    def close(self) -> None:
+        """Frees what is held, at any time. Then every other call is Misuse."""
+        if not self._is_here():
+            raise Misuse(f"{self._what} is closed by another process than that which made it")
+        with self._one_at_a_time:
+            library(NODES).sm_node_free(ctypes.byref(self._place))
+
+    def __enter__(self: _Own) -> _Own:
+        return self
+
+    def __exit__(
+        self, kind: Optional[Type[BaseException]], value: Optional[BaseException], trace: Optional[TracebackType]
+    ) -> None:
+        self.close()
+
+    def __del__(self) -> None:
+        if not getattr(self, "_place", None):
+            return
+        warnings.warn(f"{self._what} was not closed", ResourceWarning, source=self)
+        # Another process may not free it: then it stays until that process ends.
+        if self._is_here():
+            self.close()
+
+    def __reduce__(self) -> NoReturn:
+        raise TypeError(f"{self._what} is never copied")
+
+
+class Keys(_Held):
+    """The keys of a seed, for headers of version 1 or 2, and their `root`. Misuse for another version. Keys of version 2
+    make nodes in the four slots, in ascending order of the slots, and those of version 1 make one node.
+
+    A seed is 32 secret bytes, as of secrets.token_bytes(32).
+    """
+
+    def __init__(self, seed: Bytes, version: int) -> None:
+        super().__init__("keys")
+        root, own = ctypes.create_string_buffer(ROOT_BYTES), ctypes.create_string_buffer(exactly(32, seed, "a seed"), 32)
+        try:
+            must(self._call("sm_node_keys", own, number(version, 1 << 32, "version"), root), "sm_node_keys")
+        finally:
+            ctypes.memset(own, 0, 32)
+        self.root = root.raw
+
+    def _make(self, node: "Node", *words: object) -> int:
+        """The status of the call that makes a node of the keys. The last two words are the order and the fault."""
+        if not self._is_here():
+            raise Misuse("sm_node_new is called by another process than that which made the keys")
+        with self._one_at_a_time:
+            return node._call("sm_node_new", *words[:-2], ctypes.byref(self._place), *words[-2:])
+
+
+def root(seed: Bytes, version: int) -> bytes:
+    """The root of the keys that a seed makes, for headers of version 1 or 2. Misuse for another version."""
+    with Keys(seed, version) as keys:
+        return keys.root
+
+
+class Node(_Held):
+    """A node (general) of a run. The commander, general 0, has a value (order), and no other node has one.
+
+    A node is made of its keys, or of its seed, whose keys are then made for this node alone. In version 1 a seed makes one
+    node ever, and in version 2 one in each slot: a second one would sign again, which gives away secrets of its keys. So
+    first put on the disk that the seed, or the slot, is used.
+
+    In each round call begin_round(), then send() and hear() for each neighbour, then end_round(); after the last round
+    finish(). A call in another order is Misuse. After a MemoryError the same call may be made again: nothing is signed
+    twice.
+    """
+
+    def __init__(self, header: Header, general: int, keys: Union[Keys, Bytes], order: Optional[int] = None) -> None:
+        self.header = header
+        self.general = number(general, GENERALS, "general")
+        super().__init__(f"the node of general {general}")
+        own = NO_ORDER if order is None else number(order, ORDERS, "order")
+        told = ctypes.c_uint32(0)
+        words = header.data, len(header.data), self.general, own, ctypes.byref(told)
+        if isinstance(keys, Keys):
+            must(keys._make(self, *words), "sm_node_new", told)
+            return
+        with Keys(keys, header.version) as made_keys:
+            must(made_keys._make(self, *words), "sm_node_new", told)
 
     def begin_round(self) -> None:
         """Begins the next round: the node signs what it has to sign in this round."""
@@ -134,31 +204,26 @@ class Node:
         must(status, "sm_node_log")
         return log
 
-    def close(self) -> None:
-        """Frees the node, at any time. Then every other call is Misuse."""
-        if not self._is_here():
-            raise Misuse("a node is closed by another process than that which made it")
-        with self._one_at_a_time:
-            library(NODES).sm_node_free(ctypes.byref(self._node))
 
-    def __enter__(self) -> Node:
-        return self
+@dataclass(frozen=True)
+class FrameHead:
+    """What the head of a frame says: its run, its round, its sender and its receiver, and how many parcels follow. Nobody
+    signs a head. A transport goes by it to keep the frames of later rounds.
+    """
 
-    def __exit__(
-        self, kind: Optional[Type[BaseException]], value: Optional[BaseException], trace: Optional[TracebackType]
-    ) -> None:
-        self.close()
+    run_id: str
+    round: int
+    sender: int
+    receiver: int
+    parcel_count: int
 
-    def __del__(self) -> None:
-        if not getattr(self, "_node", None):
-            return
-        warnings.warn(f"the node of general {self.general} was not closed", ResourceWarning, source=self)
-        # Another process may not free it: then it stays until that process ends.
-        if self._is_here():
-            self.close()
 
-    def __reduce__(self) -> NoReturn:
-        raise TypeError("a node is never copied")
+def frame_head(frame: Bytes) -> FrameHead:
+    """The head of a frame. InputFault has F3 or F4 if no head begins the bytes."""
+    data, head, told = as_bytes(frame), Told(), ctypes.c_uint32(0)
+    function = library(NODES).sm_node_frame_head
+    must(function(data, len(data), ctypes.byref(head), ctypes.byref(told)), "sm_node_frame_head", told)
+    return FrameHead(bytes(head.run_id).hex(), head.round, head.sender, head.receiver, head.parcel_count)
 
 
 def _set_of(generals: Iterable[int]) -> int:
@@ -174,16 +239,16 @@ def bundle(
     collected.
 
     A log comes with the node that it is said to be of, ascending, and several may be of one node. The walks between
-    the others are found. InputFault has U1, U2, B4, B7, B9 or LONG_LOG. audit() says what the logs are.
+    the others are found. InputFault has B4, B7, B9 or LONG_LOG. It is NoWalk, ahead of these, if two of the others have no
+    walk of at most d edges. audit() says what the logs are.
 
-    With `parted`, there is no U1 and no U2: a bundle has no walks if two of the others have none of at most d edges.
-    audit() finds that.
+    With `parted`, there is no NoWalk: the bundle then has no walks. audit() finds that.
     """
     given: List[Tuple[int, bytes]] = [(number(general, GENERALS, "general"), as_bytes(log)) for general, log in logs]
     of = (LogOf * max(len(given), 1))(*((general, len(log)) for general, log in given))
     size = sum(len(log) for _, log in given)
     # A copy, so that no log is the object of the header's bytes.
     whole = ctypes.create_string_buffer(b"".join(log for _, log in given), max(size, 1))
-    words = [header.data, len(header.data), _set_of(faulty), of, len(given), whole, size]
+    words = [header.data, len(header.data), _set_of(faulty), int(parted), of, len(given), whole, size]
     room = len(header.data) + size + 8 + MOST_WALKS * WALK_BYTES + LOG_FRONT * len(given)
-    return made("sm_node_bundle_parted" if parted else "sm_node_bundle", words, room)
+    return made("sm_node_bundle", words, room)

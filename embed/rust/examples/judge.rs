@@ -1,12 +1,12 @@
 //! What `sm_tool` writes for the bytes on standard input, with its status.
 //!
 //!     judge audit|evidence|decide|show [--json]
-//!     judge draw
+//!     judge draw|plan
 //!     judge accuse GENERAL
 use std::io::{Error, Read, Write};
 use std::process::ExitCode;
 use vamuretu::{
-    accuse, audit, audit_json, decide, decide_json, draw, evidence, evidence_json, show, show_json, Answer, Fault,
+    accuse, audit, audit_json, decide, decide_json, draw, evidence, evidence_json, plan, show, show_json, Answer, Fault,
 };
 
 /// The status and the text of an answer.
@@ -19,6 +19,7 @@ fn answer(words: &[&str], input: &[u8]) -> Result<(u8, Vec<u8>), Fault> {
     Ok(match words {
         ["audit"] => said(audit(input)?),
         ["show"] => said(show(input)?),
+        ["plan"] => said(plan(input)?),
         ["show", "--json"] => said(show_json(&[], input)?),
         ["audit", "--json"] => (u8::from(audit(input)?.is_no()), audit_json(&[], input)?.into_bytes()),
         ["evidence", "--json"] => (u8::from(!evidence(input)?), evidence_json(None, input)?.into_bytes()),

@@ -15,6 +15,9 @@ pub enum Fault {
     Node(NodeFault),
     /// Two nodes of a header have the same root, the lesser one first. No lesser pair has.
     EqualRoots(u32, u32),
+    /// Two nodes that are not held for faulty have no walk ([`NodeFault::U1`]), or none of at most d edges
+    /// ([`NodeFault::U2`]), the lesser one first. No lesser pair has.
+    NoWalk(NodeFault, u32, u32),
     /// The call is not allowed here, or a number is out of its range: the calling program has a mistake. Of
     /// [`accuse_known`](crate::accuse_known) the general may also be none of the run's, and of
     /// [`Node::hear`](crate::Node::hear) the frame may have come after the node ended.
@@ -43,10 +46,14 @@ pub enum NodeFault {
     LeftOver,
     /// The number is none of the header's nodes (generals), or the value (order) does not fit the node.
     NoGeneral,
-    /// The header has another root for the node than that of the seed's keys.
+    /// The header has another root for the node than that of the keys.
     OtherRoot,
     /// Two nodes have the same root: [`Fault::EqualRoots`] names them.
     EqualRoots,
+    /// The keys are of another version than the header.
+    OtherVersion,
+    /// A node was made of the keys in the slot of the header, or in a later one.
+    UsedSlot,
     F1,
     F2,
     F3,
@@ -55,9 +62,9 @@ pub enum NodeFault {
     F6,
     F7,
     F8,
-    /// Two nodes that are not held for faulty have no walk.
+    /// Two nodes that are not held for faulty have no walk: [`Fault::NoWalk`] names them.
     U1,
-    /// Two nodes that are not held for faulty have no walk of at most d edges.
+    /// Two nodes that are not held for faulty have no walk of at most d edges: [`Fault::NoWalk`] names them.
     U2,
     B1,
     B2,
@@ -75,8 +82,9 @@ pub enum NodeFault {
 use NodeFault::*;
 
 /// The faults of each row of numbers, with the first number.
-const NUMBERED: [(u32, &[NodeFault]); 5] = [
+const NUMBERED: [(u32, &[NodeFault]); 6] = [
     (1, &[H1, H2, H3, H4, H5, H6, H7, H8, H9, H10, H11, LeftOver, NoGeneral, OtherRoot, EqualRoots]),
+    (16, &[OtherVersion, UsedSlot]),
     (21, &[F1, F2, F3, F4, F5, F6, F7, F8]),
     (31, &[U1, U2]),
     (41, &[B1, B2, B3, B4, B5, B6, B7, B8, B9]),
@@ -96,8 +104,10 @@ impl fmt::Display for NodeFault {
         match self {
             LeftOver => write!(to, "bytes are left over behind a header"),
             NoGeneral => write!(to, "no general of the header, or an order that does not fit it"),
-            OtherRoot => write!(to, "another root than that of the seed's keys"),
+            OtherRoot => write!(to, "another root than that of the keys"),
             EqualRoots => write!(to, "two generals have the same root"),
+            OtherVersion => write!(to, "keys of another version than the header"),
+            UsedSlot => write!(to, "a slot that the keys have served, or passed over"),
             U1 => write!(to, "two generals that are not held for faulty have no walk"),
             U2 => write!(to, "two generals that are not held for faulty have no walk of at most d edges"),
             LongLog => write!(to, "a log of 2^32 bytes or more"),
@@ -113,6 +123,7 @@ impl fmt::Display for Fault {
             Fault::OtherRun => write!(to, "fault R1"),
             Fault::Node(fault) => write!(to, "{fault}"),
             Fault::EqualRoots(first, second) => write!(to, "fault G2 generals {first} {second}"),
+            Fault::NoWalk(fault, first, second) => write!(to, "{fault}: {first} and {second}"),
             Fault::Misuse => write!(to, "the call is not allowed here"),
             Fault::Memory => write!(to, "memory was refused"),
         }
@@ -140,10 +151,14 @@ mod tests {
     #[test]
     fn numbers_are_those_of_the_header() {
         let header = include_str!("../../sm_node.h");
-        for (name, fault) in
-            [("SM_LEFT_OVER = 12", LeftOver), ("SM_NO_GENERAL = 13", NoGeneral), ("SM_OTHER_ROOT = 14", OtherRoot),
-             ("SM_EQUAL_ROOTS = 15", EqualRoots)]
-        {
+        for (name, fault) in [
+            ("SM_LEFT_OVER = 12", LeftOver),
+            ("SM_NO_GENERAL = 13", NoGeneral),
+            ("SM_OTHER_ROOT = 14", OtherRoot),
+            ("SM_EQUAL_ROOTS = 15", EqualRoots),
+            ("SM_OTHER_VERSION = 16", OtherVersion),
+            ("SM_USED_SLOT = 17", UsedSlot),
+        ] {
             let number = name.rsplit(' ').next().expect("a number").parse().expect("a number");
             assert!(header.contains(name) && NodeFault::of_number(number) == Some(fault));
         }
@@ -152,7 +167,7 @@ mod tests {
         for (number, fault) in told {
             assert_eq!(NodeFault::of_number(number), Some(fault));
         }
-        for number in [0, 16, 20, 29, 33, 40, 51, u32::MAX] {
+        for number in [0, 18, 20, 29, 33, 40, 51, u32::MAX] {
             assert_eq!(NodeFault::of_number(number), None);
         }
     }
@@ -165,7 +180,7 @@ mod tests {
         assert_eq!((Fault::of_node(0, 0), Fault::of_node(2, 0)), (Ok(()), Err(Fault::Misuse)));
         assert_eq!((Fault::of_node(3, 6), Fault::of_node(4, 0)), (Err(Fault::Node(H6)), Err(Fault::Memory)));
         assert_eq!(Fault::Node(H6).to_string(), "fault H6");
-        for fault in [LeftOver, NoGeneral, OtherRoot, EqualRoots, U1, U2, LongLog] {
+        for fault in [LeftOver, NoGeneral, OtherRoot, EqualRoots, OtherVersion, UsedSlot, U1, U2, LongLog] {
             assert!(!fault.to_string().starts_with("fault"), "a name that explain does not know");
         }
     }

@@ -4,7 +4,7 @@ use std::fmt;
 
 use crate::fault::NodeFault;
 use crate::raw::{self, written, SmNumbers, SmPair};
-use crate::Fault;
+use crate::{Fault, Keys, RunId};
 
 /// The version of the formats.
 #[derive(Debug, Clone, Copy, PartialEq, Eq, Hash)]
@@ -49,10 +49,7 @@ pub struct Root(pub [u8; 32]);
 impl Root {
     /// The root of the keys that a seed makes, for headers of a version.
     pub fn of(seed: &Seed, version: Version) -> Result<Root, Fault> {
-        let mut root = [0; 32];
-        // SAFETY: both point to 32 bytes, and do not overlap.
-        let status = unsafe { raw::sm_node_root(seed.0.as_ptr(), version.number().into(), root.as_mut_ptr()) };
-        Fault::of_node(status, 0).map(|()| Root(root))
+        Keys::new(seed, version).map(|keys| keys.root())
     }
 }
 
@@ -124,6 +121,14 @@ impl Header {
     /// The bytes of the header.
     pub fn as_bytes(&self) -> &[u8] {
         &self.0
+    }
+
+    /// The run id, by which a file is known to be of this run.
+    pub fn run_id(&self) -> Result<RunId, Fault> {
+        let (mut run_id, mut fault) = ([0; 32], 0);
+        // SAFETY: as in `new`.
+        let status = unsafe { raw::sm_node_run_id(self.0.as_ptr(), self.0.len(), run_id.as_mut_ptr(), &mut fault) };
+        Fault::of_node(status, fault).map(|()| run_id)
     }
 
     /// The version of the header.

@@ -67,8 +67,8 @@ pub fn audit(input: &[u8]) -> Result<Answer, Fault> {
 }
 
 /// The verdict on a bundle or a campaign of the runs with these ids, in their order; of any if there are none. If it is
-/// asked strictly, `explained` is a no too. [`Fault::OtherRun`] for other runs, [`Fault::Misuse`] for more than four
-/// ids.
+/// asked strictly, `explained` is a no too, and so are two nodes (generals) with the same root, whom the text names.
+/// [`Fault::OtherRun`] for other runs, [`Fault::Misuse`] for more than four ids.
 pub fn audit_of(runs: &[RunId], strict: bool, input: &[u8]) -> Result<Answer, Fault> {
     // SAFETY: the pointers are of pieces of memory of these lengths that do not overlap, and nobody else has the answer.
     let (is_no, text) = kept(|answer| unsafe {
@@ -371,6 +371,19 @@ mod tests {
         assert!(explain("K2").expect("memory").is_some_and(|said| said.starts_with("K2\n  ")));
         assert_eq!((explain("nothing of this name"), words(b"")), (Ok(None), Ok(vec![])));
         assert!(words(b"verdict no\n").expect("memory").starts_with(b"verdict no\n  "));
+    }
+
+    #[test]
+    fn plans() {
+        let split = plan(SPLIT).expect("a bundle");
+        assert!(!split.is_no() && split.text().starts_with("plan holds\nrounds 2\n"));
+        let line = "generals 3\nedge 0 1\nedge 1 2\ntraitors 1\ndiameter 2\norders 2\nchoice 0\n";
+        let roots: String = (1..4).map(|root| format!("root {}\n", root.to_string().repeat(64))).collect();
+        let cut = plan(format!("{line}{roots}end\n").as_bytes()).expect("the text of a header");
+        assert!(cut.is_no() && cut.text().starts_with("plan fails\nwithout 1\npair 0 2\n"));
+        let header = 4..4 + 7 + 6 + 96;
+        assert_eq!(plan(&SPLIT[header]), Ok(split));
+        assert_eq!(plan(&SPLIT[4..99]), Err(Fault::Input("fault B3 H9".into())));
     }
 
     #[test]

@@ -4,9 +4,10 @@
 //! are linked. A general is a node, and an order is a value.
 //!
 //! The jobs are what `sm_tool` does over bytes: [`audit`], [`draw`], [`accuse`], [`evidence`], [`decide`], [`show`],
-//! [`explain`] and [`words`]. Some have a twin that takes the run ids that are expected, as [`audit_of`]. Threads may
-//! make them at the same time. [`judge`] and [`decisions`] give the answers of two of them in their parts. A [`Node`] is driven over the caller's transport, by any thread, one call at a
-//! time. A [`Bundle`] of logs is what `audit` judges.
+//! [`explain`], [`words`] and [`plan`]. Some have a twin that takes the run ids that are expected, as [`audit_of`].
+//! Threads may make them at the same time. [`judge`] and [`decisions`] give the answers of two of them in their parts. A
+//! [`Node`] is driven over the caller's transport, by any thread, one call at a time. A [`Bundle`] of logs is what `audit`
+//! judges.
 #![warn(missing_docs)]
 
 mod fault;
@@ -24,5 +25,6 @@ pub use header::{Header, Numbers, Root, Seed, Version};
 pub use jobs::{accuse, accuse_known, accuse_known_of, accuse_of, audit, audit_json, audit_of, decide, decide_json};
 pub use jobs::{decisions, draw, draw_of, evidence, evidence_json, evidence_of, explain, judge, refute, run_ids, show};
 pub use jobs::{plan, show_json, show_of, version, versions_match, words, Answer, RunId};
-pub use node::{Bundle, Node};
-pub use texts::{read_decisions, Across, Conviction, Decision, Finding, Judgement, RunDecision, Said, Verdict};
+pub use node::{Bundle, FrameHead, Keys, Node};
+pub use texts::{read_decisions, Across, Conviction, Decision, Finding, Judgement, RunDecision, Said};
+pub use texts::{Verdict, Verdicts};

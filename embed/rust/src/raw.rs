@@ -13,7 +13,7 @@ pub const OTHER: u32 = 7;
 /// In place of an order: the node has none.
 pub const NO_ORDER: u32 = 255;
 
-/// `sm_node`. It holds no node if it is null.
+/// `sm_node`. It holds neither a node nor keys if it is null.
 #[repr(C)]
 pub struct SmNode {
     pub at: *mut c_void,
@@ -42,6 +42,16 @@ pub struct SmNumbers {
 pub struct SmPair {
     pub first: u32,
     pub second: u32,
+}
+
+/// `sm_frame_head`.
+#[repr(C)]
+pub struct SmFrameHead {
+    pub run_id: [u8; 32],
+    pub round: u32,
+    pub sender: u32,
+    pub receiver: u32,
+    pub parcel_count: u32,
 }
 
 /// `sm_log`.
@@ -131,7 +141,7 @@ extern "C" {
     pub fn sm_answer_free(answer: *mut SmAnswer);
     pub fn sm_version() -> u32;
 
-    pub fn sm_node_root(seed: *const u8, version: u32, root: *mut u8) -> u32;
+    pub fn sm_node_keys(keys: *mut SmNode, seed: *const u8, version: u32, root: *mut u8) -> u32;
     pub fn sm_node_header(
         numbers: *const SmNumbers,
         edges: *const u8,
@@ -149,7 +159,7 @@ extern "C" {
         header: *const u8,
         header_bytes: usize,
         general: u32,
-        seed: *const u8,
+        keys: *mut SmNode,
         order: u32,
         fault: *mut u32,
     ) -> u32;
@@ -173,23 +183,13 @@ extern "C" {
         numbers: *mut SmNumbers,
         fault: *mut u32,
     ) -> u32;
-    pub fn sm_node_bundle_parted(
-        header: *const u8,
-        header_bytes: usize,
-        faulty: u32,
-        logs: *const SmLog,
-        log_count: usize,
-        bytes: *const u8,
-        byte_count: usize,
-        room: *mut u8,
-        room_bytes: usize,
-        count: *mut usize,
-        fault: *mut u32,
-    ) -> u32;
+    pub fn sm_node_run_id(header: *const u8, header_bytes: usize, run_id: *mut u8, fault: *mut u32) -> u32;
+    pub fn sm_node_frame_head(frame: *const u8, frame_bytes: usize, head: *mut SmFrameHead, fault: *mut u32) -> u32;
     pub fn sm_node_bundle(
         header: *const u8,
         header_bytes: usize,
         faulty: u32,
+        parted: u32,
         logs: *const SmLog,
         log_count: usize,
         bytes: *const u8,
@@ -198,24 +198,9 @@ extern "C" {
         room_bytes: usize,
         count: *mut usize,
         fault: *mut u32,
+        apart: *mut SmPair,
     ) -> u32;
 }
-
-/// A call that makes a bundle: the header and its length, the set of the faulty, the logs' ends, their number, bytes and
-/// length, the room and its length, the count, the fault.
-pub type Gathering = unsafe extern "C" fn(
-    *const u8,
-    usize,
-    u32,
-    *const SmLog,
-    usize,
-    *const u8,
-    usize,
-    *mut u8,
-    usize,
-    *mut usize,
-    *mut u32,
-) -> u32;
 
 /// The status of a call, and the bytes that it writes. The call gets a room, its length and the count. It is made again
 /// if the room was too short.

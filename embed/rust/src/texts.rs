@@ -136,36 +136,47 @@ impl Verdict {
     }
 }
 
-/// The verdict on a bundle, or on a campaign.
+/// The verdicts of a judgement.
 #[derive(Debug, Clone, PartialEq, Eq, Hash)]
-pub enum Judgement {
-    /// On the run of a bundle.
+pub enum Verdicts {
+    /// The verdict on the run of a bundle.
     Run(Verdict),
-    /// On the runs of a campaign, with who is convicted across two of them.
+    /// Those on the runs of a campaign, with who is convicted across two of them.
     Campaign(Vec<Verdict>, Vec<Across>),
 }
 
+/// The verdict on a bundle, or on a campaign.
+#[derive(Debug, Clone, PartialEq, Eq, Hash)]
+pub struct Judgement {
+    /// The verdict on each run.
+    pub verdicts: Verdicts,
+    /// The pairs of nodes (generals) with the same root, if it was asked strictly, as by [`audit_of`](crate::audit_of).
+    pub equal_roots: Vec<(u32, u32)>,
+}
+
 impl Judgement {
-    /// The judgement that a text of [`audit`](crate::audit) says; `None` for any other text.
+    /// The judgement that a text of [`audit`](crate::audit) or [`audit_of`](crate::audit_of) says; `None` for any other
+    /// text.
     pub fn read(text: &str) -> Option<Judgement> {
         let mut lines = Lines::of(text)?;
-        let judgement = match lines.take(|line| number(line.strip_prefix("campaign ")?, 1..=4)) {
-            None => Judgement::Run(lines.verdict()?),
+        let verdicts = match lines.take(|line| number(line.strip_prefix("campaign ")?, 1..=4)) {
+            None => Verdicts::Run(lines.verdict()?),
             Some(count) => {
                 let runs = (0..count).map(|_| lines.verdict()).collect::<Option<Vec<_>>>()?;
                 let across = lines.many(across);
                 lines.take(|line| (line == "end campaign").then_some(()))?;
-                Judgement::Campaign(runs, across)
+                Verdicts::Campaign(runs, across)
             }
         };
-        lines.0.is_empty().then_some(judgement)
+        let equal_roots = lines.many(equal_roots);
+        lines.0.is_empty().then_some(Judgement { verdicts, equal_roots })
     }
 
     /// The verdicts, run by run: one of a bundle.
     pub fn runs(&self) -> &[Verdict] {
-        match self {
-            Judgement::Run(verdict) => std::slice::from_ref(verdict),
-            Judgement::Campaign(runs, _) => runs,
+        match &self.verdicts {
+            Verdicts::Run(verdict) => std::slice::from_ref(verdict),
+            Verdicts::Campaign(runs, _) => runs,
         }
     }
 
@@ -297,6 +308,13 @@ fn across(line: &str) -> Option<Across> {
     }
 }
 
+fn equal_roots(line: &str) -> Option<(u32, u32)> {
+    match line.split(' ').collect::<Vec<_>>()[..] {
+        ["equal", "roots", one, other] => Some((general(one)?, general(other)?)),
+        _ => None,
+    }
+}
+
 fn finding(line: &str) -> Option<Finding> {
     let words: Vec<&str> = line.split(' ').collect();
     let number_of = |name: &str| number::<u8>(name.strip_prefix('N')?, 1..=11);
@@ -401,15 +419,16 @@ impl Display for Verdict {
 /// The text that `sm_tool audit` writes.
 impl Display for Judgement {
     fn fmt(&self, to: &mut Formatter<'_>) -> fmt::Result {
-        match self {
-            Judgement::Run(verdict) => write!(to, "{verdict}"),
-            Judgement::Campaign(runs, across) => {
+        match &self.verdicts {
+            Verdicts::Run(verdict) => write!(to, "{verdict}")?,
+            Verdicts::Campaign(runs, across) => {
                 writeln!(to, "campaign {}", runs.len())?;
                 runs.iter().try_for_each(|it| write!(to, "{it}"))?;
                 across.iter().try_for_each(|it| writeln!(to, "{it}"))?;
-                writeln!(to, "end campaign")
+                writeln!(to, "end campaign")?;
             }
         }
+        self.equal_roots.iter().try_for_each(|(one, other)| writeln!(to, "equal roots {one} {other}"))
     }
 }
 
@@ -454,11 +473,26 @@ mod tests {
     #[test]
     fn findings_of_each_kind() {
         let text = format!("{}verdict no\n{}\nconvicted 1 by K4\nend\n", run(), FINDINGS.join("\n"));
-        let Some(Judgement::Run(verdict)) = Judgement::read(&text) else { panic!("a verdict") };
+        let judgement = Judgement::read(&text).expect("a verdict");
+        let Verdicts::Run(verdict) = &judgement.verdicts else { panic!("one run") };
         let Said::No(findings) = &verdict.said else { panic!("a no") };
         assert_eq!(findings.iter().map(Finding::number).collect::<Vec<_>>(), [1, 2, 3, 3, 4, 5, 6, 7, 8, 9, 10, 11]);
         assert_eq!(findings[8], Finding::Message { number: 8, from: 0, to: 2, round: 1, order: 1 });
         assert_eq!((verdict.to_string(), verdict.is_no()), (text, true));
+    }
+
+    #[test]
+    fn equal_roots_of_strict_texts() {
+        let one = format!("{}verdict agreed 0\nend\n", run());
+        for front in [one.clone(), format!("campaign 2\n{one}{one}end campaign\n")] {
+            assert!(Judgement::read(&front).expect("a verdict").equal_roots.is_empty());
+            let text = format!("{front}equal roots 0 2\nequal roots 14 15\n");
+            let judgement = Judgement::read(&text).expect("a verdict");
+            assert_eq!((judgement.to_string(), &judgement.equal_roots[..]), (text, &[(0, 2), (14, 15)][..]));
+        }
+        for bad in ["equal roots 0\n", "equal roots 0 16\n", "equal roots 0 1\nend\n"] {
+            assert_eq!(Judgement::read(&format!("{one}{bad}")), None);
+        }
     }
 
     #[test]

@@ -4,7 +4,7 @@
 //! part. `trials/bindings.py` makes it by the program. Without it the runs are judged alone.
 
 use std::collections::BTreeMap;
-use vamuretu::{audit, Bundle, Fault, Header, Node, NodeFault, Numbers, Root, Seed, Version};
+use vamuretu::{audit, run_ids, Bundle, Fault, FrameHead, Header, Keys, Node, NodeFault, Numbers, Root, Seed, Version};
 
 /// The seeds of the nodes (generals) of a scenario whose seed is zero (docs/FORMATS.md).
 const SEEDS: [&str; 4] = [
@@ -93,6 +93,7 @@ fn headers() {
     assert_eq!(header.neighbours(0).collect::<Vec<_>>(), [1, 3]);
     let bytes = header.as_bytes();
     assert_eq!(Header::read(bytes), Ok(header.clone()));
+    assert_eq!(run_ids(bytes), Ok(Some(vec![header.run_id().expect("a run id")])));
     let longer = [bytes, &[0]].concat();
     for (given, fault) in
         [(&[][..], NodeFault::H9), (&bytes[..9], NodeFault::H9), (&longer, NodeFault::LeftOver), (&[3], NodeFault::H10)]
@@ -103,8 +104,9 @@ fn headers() {
     let line = Numbers { generals: 3, traitors: 0, ..NUMBERS };
     let parted = Header::new(&line, &[(0, 1), (1, 2)], &roots).expect("a header");
     assert_eq!(Header::read(parted.as_bytes()), Ok(parted.clone()));
-    assert_eq!(Bundle::new(&parted, &[1], &[]), Err(Fault::Node(NodeFault::U1)));
-    assert_eq!(Bundle::new(&parted, &[], &[]), Err(Fault::Node(NodeFault::U2)));
+    assert_eq!(Bundle::new(&parted, &[1], &[]), Err(Fault::NoWalk(NodeFault::U1, 0, 2)));
+    assert_eq!(Bundle::new(&parted, &[], &[]), Err(Fault::NoWalk(NodeFault::U2, 0, 2)));
+    assert!(Bundle::parted(&parted, &[], &[]).is_ok());
     for (numbers, edges, fault) in [
         (Numbers { generals: 1, ..line }, &[][..], NodeFault::H1),
         (line, &[(0, 0)][..], NodeFault::H2),
@@ -115,6 +117,20 @@ fn headers() {
     }
     let shared = [roots[0], roots[1], roots[1]];
     assert_eq!(Header::new(&line, &[(0, 1), (1, 2)], &shared), Err(Fault::EqualRoots(1, 2)));
+}
+
+#[test]
+fn keys() {
+    let header = |slot| header_of(&Numbers { version: Version::Two, slot, ..NUMBERS }, &ALL);
+    let mut keys = Keys::new(&seed_of(1), Version::Two).expect("keys");
+    assert_eq!(Root::of(&seed_of(1), Version::Two), Ok(keys.root()));
+    for (slot, fault) in [(1, None), (3, None), (0, Some(NodeFault::UsedSlot)), (3, Some(NodeFault::UsedSlot))] {
+        assert_eq!(Node::of_keys(&header(slot), 1, &mut keys, None).err(), fault.map(Fault::Node));
+    }
+    let mut other = Keys::new(&seed_of(1), Version::One).expect("keys");
+    let told = Node::of_keys(&header(0), 1, &mut other, None).err();
+    assert_eq!(told, Some(Fault::Node(NodeFault::OtherVersion)));
+    assert!(Node::of_keys(&header_of(&NUMBERS, &ALL), 1, &mut other, None).is_ok());
 }
 
 #[test]
@@ -141,6 +157,11 @@ fn calls() {
     assert_eq!(own.lacks(16), Err(Fault::Misuse));
     let frame = own.send(1).expect("a frame");
     assert_eq!(own.send(1), Ok(frame.clone()));
+    let run_id = header.run_id().expect("a run id");
+    let head = FrameHead { run_id, round: 1, sender: 0, receiver: 1, parcel_count: 1 };
+    assert_eq!((FrameHead::read(&frame), FrameHead::read(&frame[..41])), (Ok(head), Ok(head)));
+    assert_eq!(FrameHead::read(&frame[..40]), Err(Fault::Node(NodeFault::F3)));
+    assert_eq!(FrameHead::read(&frame[1..]), Err(Fault::Node(NodeFault::F4)));
     assert_eq!(own.send(4), Err(Fault::Misuse));
     assert_eq!(other.hear(16, &frame), Err(Fault::Misuse));
     assert_eq!(other.hear(2, &frame), Err(Fault::Node(NodeFault::F8)));

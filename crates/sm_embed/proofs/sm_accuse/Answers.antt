@@ -1,10 +1,9 @@
 use Rattle.std.proofs.Common.{ℕ, subst}
-use Rattle.gen_jobs.specs.Accusing.{IsAccused}
-use Rattle.gen_jobs.specs.Audit.{IsAuditFault}
-use Rattle.sm_embed.specs.Handing.{IsHanded}
-use Rattle.sm_embed.proofs.Given.{is_handed}
+use Rattle.gen_asked.specs.declared.asked_runs.AskedRuns.TheVariants.{Any}
+use Rattle.gen_asked.specs.declared.jobs.Job.TheVariants.{Accuse}
+use Rattle.sm_embed.specs.Handing.{HandsJob}
 use Rattle.sm_embed.proofs.sm_accuse.Goals as goal
 
 pub returns-clause-general : goal.returns-clause-general
 returns-clause-general c = λ below.
-    subst (λ (g : ℕ). IsHanded (IsAccused g c.args.input.now) (IsAuditFault c.args.input.now) c.args.room.now c.hand.new.room c.hand.new.count c.status.result) c.at-accused.ensures (is_handed (IsAccused c.at-accused.result c.args.input.now) (IsAuditFault c.args.input.now) c.accuse_in_place.result c.args.room.now c.hand.new.room c.hand.new.count c.status.result c.hand.result c.status.ensures c.accuse_in_place.ensures.answer c.accuse_in_place.ensures.fault c.hand.ensures)
+    subst (λ (g : ℕ). HandsJob (Accuse g Any) c.args.input.now c.args.room.now c.hand_job.new.room c.hand_job.new.count c.hand_job.result) c.at-accused.ensures c.hand_job.ensures

@@ -1,7 +1,7 @@
 use Rattle.std.proofs.Common.{◌≡◌, All, List, ap, length, sym, subst, arith}
 use Rattle.gen_audit.specs.Bundle.{Bundle}
 use Rattle.gen_jobs.specs.Holding.{IsHeldAs}
-use Rattle.gen_jobs.specs.declared.faulty.Faulty.{Faulty}
+use Rattle.gen_asked.specs.declared.faulty.Faulty.{Faulty}
 use Rattle.gen_jobs.proofs.Held.{HasAll, again_held, few_held, few_shown, shown_again, shown_with}
 use Rattle.gen_jobs.proofs.holding.held_as.Goals as goal
 

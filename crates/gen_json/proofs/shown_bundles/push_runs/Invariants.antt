@@ -1,6 +1,6 @@
 use Rattle.std.proofs.Common.{◌≡◌, ◌+◌, ◌++◌, drop}
 use Rattle.std.specs.Prelude.{sum_by}
-use Rattle.gen_show.specs.BundleText.{bundle_length}
+use Rattle.gen_file.specs.Parts.{bundle_length}
 use Rattle.gen_json.specs.BundleData.{run_lines}
 use Rattle.gen_json.proofs.shown_bundles.push_runs.Given as goal
 

@@ -32,5 +32,5 @@ returns-clause-ok c =
     let all : c.parcels.out.items ≡ (front_spelling front ++ to_be_bytes w16 (length parcels)) ++ flat_map parcel_spelling parcels = rw counted at put in
     record {
       fits = is_frame front parcels c.parts_fit.ensures c.requires.few c.requires.short;
-      spelled = all ∙ append_assoc (front_spelling front) (to_be_bytes w16 (length parcels)) (flat_map parcel_spelling parcels);
+      spelled = all;
     }

@@ -1,6 +1,7 @@
 use Rattle.std.proofs.Common.{◌≡◌, ◌+◌, ◌++◌, string_bytes, drop}
 use Rattle.std.specs.Prelude.{sum_by}
-use Rattle.gen_show.specs.BundleText.{exhibit_length, exhibit_lines}
+use Rattle.gen_file.specs.Parts.{exhibit_length}
+use Rattle.gen_show.specs.BundleText.{exhibit_lines}
 use Rattle.gen_show.proofs.bundles.push_exhibits.Given as goal
 
 abbrev pub invariant-loop-index : goal.invariant-loop-index

@@ -1,6 +1,7 @@
 use Rattle.std.proofs.Common.{◌≡◌, ◌+◌, ◌++◌, string_bytes, drop}
 use Rattle.std.specs.Prelude.{sum_by}
-use Rattle.gen_show.specs.BundleText.{bundle_length, run_lines}
+use Rattle.gen_file.specs.Parts.{bundle_length}
+use Rattle.gen_show.specs.BundleText.{run_lines}
 use Rattle.gen_show.proofs.bundles.push_runs.Given as goal
 
 abbrev pub invariant-loop-place : goal.invariant-loop-place

@@ -1,5 +1,6 @@
 use Rattle.std.proofs.Common.{◌≡◌, ◌++◌, ◌∙◌, codes, false, length, string_bytes, sym}
-use Rattle.gen_show.specs.CampaignText.{campaign_front_length, campaign_line}
+use Rattle.gen_campaign.specs.CampaignParts.{campaign_front_length}
+use Rattle.gen_show.specs.CampaignText.{campaign_line}
 use Rattle.gen_show.specs.BundleText.{run_lines}
 use Rattle.gen_show.proofs.Chains.{behind, both, ended}
 use Rattle.gen_show.proofs.campaigns.push_campaign.Goals as goal

@@ -14,7 +14,7 @@ returns-in-Err-Fault c =
     let few : c.args.faulty < 65536 = omega (arith, c.if-faulty.false) in
     let why = rw c.in-Err-Fault.field-0-is at c.in-Err-Fault.ensures in
     let told : c.number.result ≡ bytes_number broken = rw c.in-Err-Fault.field-0-is at c.number.ensures in
-    ((refl, refl), few, (own, Header broken, logs, why, told))
+    ((refl, refl), few, (own, Header broken, logs, why, told, refl))
 
 pub returns-in-Err-Fault-make_bundle : goal.returns-in-Err-Fault-make_bundle
 returns-in-Err-Fault-make_bundle c =
@@ -29,4 +29,4 @@ returns-in-Err-Fault-make_bundle c =
     let raw = rw c.in-Err-Fault-make_bundle.field-0-is at c.in-Err-Fault-make_bundle.ensures in
     let why : bundle_bytes h (members_of c.args.faulty) walks own ≡ Err broken = cc in
     let told : c.number-in-Err-Fault-make_bundle.result ≡ bundle_number broken = c.number-in-Err-Fault-make_bundle.ensures in
-    ((refl, refl), few, (own, Bundle broken, logs, (h, walks, record { header = c.in-Ok.ensures; walks_are = beside }, why), told))
+    ((refl, refl), few, (own, Bundle broken, logs, (h, walks, record { header = c.in-Ok.ensures; walks_are = beside }, why), told, refl))

@@ -1,0 +1,2 @@
+pub mod AskedTexts
+pub mod Named

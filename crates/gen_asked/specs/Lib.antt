@@ -1,0 +1,3 @@
+pub mod AskedRuns
+pub mod Faulty
+pub mod Ranges

@@ -1,0 +1,3 @@
+pub mod BundleLengths
+pub mod EvidenceLengths
+pub mod Lengths

@@ -1,0 +1,4 @@
+pub mod FaultText
+pub mod FileFaultText
+pub mod Kinds
+pub mod Parts

@@ -1,0 +1,31 @@
+-- A write that fails is no fault of the input.
+use Rattle.std.proofs.Common.{ℕ, List}
+use Rattle.gen_net.specs.declared.version.Version.{Version}
+use Rattle.gen_jobs.specs.InputKinds.{kind_of}
+use Rattle.gen_jobs.specs.Jobs.{JobFails}
+use Rattle.gen_jobs.specs.Planning.{IsPlanFaultAs, source_of}
+use Rattle.gen_asked.specs.declared.jobs.Job.{Job}
+use Rattle.gen_asked.specs.declared.jobs.Job.TheVariants as jobs
+use Rattle.gen_jobs.specs.declared.ends.JobFault.TheVariants as faults
+use Rattle.gen_jobs.specs.declared.planning.PlanSource.{PlanSource}
+use Rattle.gen_jobs.specs.declared.planning.PlanSource.TheVariants.{OfShown, OfHeader, OfText}
+
+no_source_writes : (source : PlanSource) (version : Version) (input : List ℕ) → IsPlanFaultAs source version input faults.Write → ⊥
+no_source_writes OfShown version input h = h
+no_source_writes OfHeader version input h = h
+no_source_writes OfText version input h = h
+
+pub no_job_writes : (job : Job) (input : List ℕ) → JobFails job input faults.Write → ⊥
+no_job_writes (jobs.Decide form) input h = h
+no_job_writes (jobs.Run n) input h = h
+no_job_writes (jobs.Judge n w strict form) input h = h
+no_job_writes (jobs.Campaign n) input h = h
+no_job_writes (jobs.Audit w asked strict form) input h = h
+no_job_writes (jobs.Draw w asked) input h = h
+no_job_writes (jobs.Accuse g asked) input h = h
+no_job_writes (jobs.Evidence asked form) input h = h
+no_job_writes (jobs.Show asked form) input h = h
+no_job_writes (jobs.Root height) input h = h
+no_job_writes (jobs.Header version) input h = h
+no_job_writes (jobs.Plan version) input h = no_source_writes (source_of (kind_of input)) version input h
+no_job_writes (jobs.Tell what) input h = h

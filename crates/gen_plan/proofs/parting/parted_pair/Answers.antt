@@ -1,0 +1,8 @@
+use Rattle.gen_plan.proofs.FirstParted.{is_parted_pair}
+use Rattle.gen_plan.proofs.parting.parted_pair.Goals as goal
+
+pub returns : goal.returns
+returns c =
+    let told = c.first_apart.ensures in
+    is_parted_pair c.args.net.now c.args.faulty.now c.first_apart.result
+    (rw (c.of-graph.ensures, c.diameter.ensures) at told.some) (rw (c.of-graph.ensures, c.diameter.ensures) at told.none)

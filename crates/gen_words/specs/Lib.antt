@@ -1,0 +1,6 @@
+pub mod CommandLine
+pub mod Commands
+pub mod FaultLine
+pub mod Jobs
+pub mod Several
+pub mod Tool

@@ -1,0 +1,17 @@
+//! The command line: from the program's words to what they ask for, or to a line that says what is wrong with them.
+//!
+//! `read_request` returns what words ask for: a job, and the file of its input; `read_words` returns the job alone.
+//! `read_several` returns what is asked for by the words of a command that has several files. `fault_line` is the line of
+//! a fault of the words.
+#![tactic(auto)]
+
+mod blaming;
+mod choices;
+mod command_builder;
+mod command_line;
+mod several;
+mod words;
+
+pub use blaming::{fault_line, given_value, show_usage};
+pub use several::{Several, read_several};
+pub use words::{Request, WordsFault, read_request, read_words};

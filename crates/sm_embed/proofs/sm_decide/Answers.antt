@@ -1,7 +1,0 @@
-use Rattle.gen_jobs.specs.Decide.{IsDecided, IsDecideFault}
-use Rattle.sm_embed.proofs.Given.{is_handed}
-use Rattle.sm_embed.proofs.sm_decide.Goals as goal
-
-pub returns : goal.returns
-returns c =
-    is_handed (IsDecided c.args.input.now) (IsDecideFault c.args.input.now) c.decide.result c.args.room.now c.hand.new.room c.hand.new.count c.status.result c.hand.result c.status.ensures c.decide.ensures.answer c.decide.ensures.fault c.hand.ensures
