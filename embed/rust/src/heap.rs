@@ -1,7 +1,7 @@
 //! The heap of the libraries over Rust's global allocator, in place of `heap.c`: with the feature `global-allocator`.
 //!
 //! A block has its length in front, since the libraries free a block by its address alone. The rules that are kept stand
-//! in `heap.c`.
+//! in `sm_heap.h`.
 
 use std::alloc::{alloc, dealloc, realloc, Layout};
 
