@@ -3,7 +3,7 @@ its runs, and what generals can come to keep of them. worlds.py tries the progra
 
 It is written from the paper, and uses nothing of the reference. Where it departs from the paper, or settles what the paper leaves
 open, DIFFERENCES says so. The words are the paper's: general 0 commands, and the others are lieutenants. A message v:0:j1:..:jk is
-the value v with the path (0, j1, .., jk). The values are 0, 1, .., and 0 is RETREAT.
+the value v with the path (0, j1, .., jk). The values are 0 to q - 1, and 0 is RETREAT. What has another value is no message.
 """
 import functools
 import itertools
@@ -20,11 +20,14 @@ DIFFERENCES = [
     (STEPS, "2(B)", "Of a frame of more than q parcels none counts."),
     (STEPS, "2(B)", "Of several chains of one value in a frame the first one that may count does."),
     (STEPS, "2(B)", "A chain that names its receiver is ignored."),
+    (STEPS, "2(B)", "A chain that names a node twice is none."),
+    (STEPS, "2(B)", "A chain of more than m + d signers never counts."),
     (SIGNATURES, "It is sent on in the round in which it came.", "It may be used from the next round on."),
     (SIGNATURES, "It was read on its way between two nodes of the rest.", "Only what a faulty node was sent may be used."),
     (SIGNATURES, "It was sent to nobody, and was read in a log.", "Only what a faulty node was sent may be used."),
     (OPEN, "Which chain of a value is relayed", "any that arrives in the round in which the value is added"),
     (OPEN, "A longer chain that nobody is left to be sent", "It is signed all the same, and so is the own value."),
+    (OPEN, "What a node writes down", "what it signed and sent, and each chain that counted, also of a value that it has"),
     (OPEN, "What the commander decides", "the own value, which is the commander's set"),
     (OPEN, "The choice of several values", "RETREAT, or the lesser one in the middle"),
     (OPEN, "What the faulty share", "What one of them was sent, each may use from the next round on, without an edge."),
@@ -52,7 +55,8 @@ class Plan:
         self.generals, self.edges, self.m, self.d, self.values = generals, edges, m, d, range(values)
         self.choice = (only_element, median)[choice]
         self.neighbours = [sorted(sum(edge) - i for edge in edges if i in edge) for i in range(generals)]
-        # By step (2)(B)(ii) a message v:0:j1:..:jk is relayed if k < m + d - 1, so a path has at most m + d generals.
+        # By step (2)(B)(ii) a loyal general relays v:0:j1:..:jk if k < m + d - 1, so its paths have at most m + d generals. Longer
+        # ones of traitors never count.
         self.longest = m + d
 
     @functools.cached_property
@@ -86,7 +90,7 @@ def counting(plan, frame, number, sender, receiver):
     """Which messages of a frame count, each value with its path. What is no message stands there as None."""
     counted = {}
     for v, path in filter(None, frame if len(frame) <= len(plan.values) else []):
-        if len(path) == number and path[-1] == sender and receiver not in path:
+        if len(path) == number == len({*path}) and path[-1] == sender and receiver not in path:
             counted.setdefault(v, path)
     return counted
 

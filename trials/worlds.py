@@ -66,9 +66,9 @@ NETWORKS = {
 # Worlds of version 2, each with the numbers of two more runs with the same keys: the other choice, and the next slot.
 ACROSS = {name: [(*it[:5], 1 - it[5], it[6]), (*it[:6], it[6] + 1)] for name, it in NETWORKS.items() if it[6] is not None}
 MOST_GENERALS = max(numbers[0] for numbers in NETWORKS.values())
-# Of a list with at most so many tuples each is asked. So many bundles are drawn at most for a changed auditor, and so many for a
-# change that is none.
-FEW, MOST_OF_ONE, SAME_ASKED = 150, 10_000, 150
+# Of a list with at most so many tuples each is asked. So many bundles are drawn at most for a changed auditor, so many campaigns for
+# those that are changed there, and so many bundles for a change that is none.
+FEW, MOST_OF_ONE, MOST_ACROSS, SAME_ASKED = 150, 10_000, 2_000, 150
 # Bundles, campaigns of each world of version 2, and scenarios. A job draws so many bundles at most. All scripts are so many jobs.
 BUNDLES, CAMPAIGNS, SCENARIOS, SHARE, SPLIT = 10_000, 50, 500, 250, 16
 # Of two generals in one round there are so many tuples with a log of one that reads, of which the trial has so many.
@@ -196,9 +196,11 @@ class Trial:
             self.ask(world, case, done)
 
     def across(self, job, done):
-        """Campaigns of two runs with the same keys, in one slot or in two. They tell the auditors apart that are changed there."""
+        """Campaigns of two runs with the same keys, in one slot or in two. They tell the auditors apart that are changed there; if
+        some are left, by more such campaigns.
+        """
         draws, world, alike = self.draws(job), self.worlds[job.name], dict(enumerate(wrong_audits.WRONG_ACROSS))
-        for number in range(job.count):
+        for number in itertools.takewhile(lambda it: it < job.count or alike and it < MOST_ACROSS, itertools.count()):
             both = [(it, next(cases(it, draws))) for it in (world, draws.one_of(self.twins[job.name]))]
             runs = [it.bundle(case) for it, case in both]
             given = b"SMC2\x02" + b"".join(it.spell() for it in runs)

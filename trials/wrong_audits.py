@@ -45,6 +45,8 @@ WRONG = [
      "audit", "return {Finding(4, (general,))}", "return set()"),
     ("N4 the run is not compared", "three", ANY, SHOWN,
      "audit", "log.run_id != self.header.run_id or log.general", "log.general"),
+    ("N4 START's general not asked", "three", ANY, SHOWN,
+     "audit", " or log.general != self.exhibit.general:", ":"),
     ("N5 not found", "three", ANY, SHOWN,
      "audit", "if report.unverified is not None:", "if False:"),
     ("N5 of SIGNs not found", "three", ANY, SHOWN,
@@ -187,8 +189,6 @@ WRONG = [
 
 # Changes that are none of yes and no, and of no conviction, each with the reason in place of the kinds of tuples.
 SAME = [
-    ("N4 START's general not asked", "three", "N7 asks for it too",
-     "audit", " or log.general != self.exhibit.general:", ":"),
     ("N7 START's general not asked", "three", "N4 asks for it too",
      "follow", "entry.general == self.general and ", ""),
     ("N7 a RECV while something is owed", "three", "what is owed is missed behind it",
