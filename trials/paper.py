@@ -4,6 +4,7 @@ its runs, and what generals can come to keep of them. worlds.py tries the progra
 It is written from the paper, and uses nothing of the reference. Where it departs from the paper, or settles what the paper leaves
 open, DIFFERENCES says so. The words are the paper's: general 0 commands, and the others are lieutenants. A message v:0:j1:..:jk is
 the value v with the path (0, j1, .., jk). The values are 0 to q - 1, and 0 is RETREAT. What has another value is no message.
+Where `forging` is asked for, A4 does not hold: traitors may use any signature.
 """
 import functools
 import itertools
@@ -27,7 +28,9 @@ DIFFERENCES = [
     (SIGNATURES, "It was sent to nobody, and was read in a log.", "Only what a faulty node was sent may be used."),
     (OPEN, "Which chain of a value is relayed", "any that arrives in the round in which the value is added"),
     (OPEN, "A longer chain that nobody is left to be sent", "It is signed all the same, and so is the own value."),
-    (OPEN, "What a node writes down", "what it signed and sent, and each chain that counted, also of a value that it has"),
+    (OPEN, "What a node writes down", "its own value, what it signed and sent, each chain that counted, also of a value that it has, its set, and what it decides"),
+    (OPEN, "What is added in the last round", "It is neither signed nor sent."),
+    (OPEN, "To whom step 2(A) relays", "to neighbours, as step 2(B) does"),
     (OPEN, "What the commander decides", "the own value, which is the commander's set"),
     (OPEN, "The choice of several values", "RETREAT, or the lesser one in the middle"),
     (OPEN, "What the faulty share", "What one of them was sent, each may use from the next round on, without an edge."),
