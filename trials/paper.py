@@ -14,7 +14,7 @@ from typing import NamedTuple
 # and the cell "Here". The rows of these tables and this list have to be the same (`differences_wrong` of worlds.py).
 STEPS, SIGNATURES, OPEN = "the-protocol", "what-a-run-is", "what-the-paper-leaves-open"
 DIFFERENCES = [
-    (STEPS, "2(A)", "A lieutenant adds each value that comes from the commander in round 1."),
+    (STEPS, "2(A)", "A lieutenant adds each value that comes from the commander in round 1, and relays each."),
     (STEPS, "2(A)", "With one round nothing is relayed."),
     (STEPS, "2(B)", "A chain counts only if the node that sent it signed last."),
     (STEPS, "2(B), 3", "A chain counts only in the round whose number is the number of its signers."),
@@ -29,6 +29,7 @@ DIFFERENCES = [
     (OPEN, "Which chain of a value is relayed", "any that arrives in the round in which the value is added"),
     (OPEN, "A longer chain that nobody is left to be sent", "It is signed all the same, and so is the own value."),
     (OPEN, "What a node writes down", "its own value, what it signed and sent, each chain that counted, also of a value that it has, its set, and what it decides"),
+    (OPEN, "When a chain is relayed", "in the round after the value is added"),
     (OPEN, "What is added in the last round", "It is neither signed nor sent."),
     (OPEN, "To whom step 2(A) relays", "to neighbours, as step 2(B) does"),
     (OPEN, "What the commander decides", "the own value, which is the commander's set"),
