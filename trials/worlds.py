@@ -359,10 +359,10 @@ class Counts:
 
 def told(counts):
     """Numbers of bundles in a line."""
-    alone = ", ".join(f"N{it} {counts[f'N{it} alone']}" for it in range(1, 12) if counts[f"N{it} alone"])
+    found = ", ".join(f"N{it} {counts[f'N{it}']}, alone {counts[f'N{it} alone']}" for it in range(1, 12) if counts[f"N{it}"])
     numbers = ", ".join(f"{counts[it]} {it}" for it in ("agreed", "explained", "no"))
     whole = f"; {counts['whole lists']} of {counts['lists']} lists whole, {counts['tuples']} tuples" if counts["lists"] else ""
-    return f"{counts['asked']} bundles, {numbers} (alone: {alone}){whole}"
+    return f"{counts['asked']} bundles, {numbers} ({found or 'nothing found'}){whole}"
 
 
 def build_library(folder):
