@@ -134,12 +134,14 @@ static int print_answer(sm_answer *answer) {
 /* Prints the verdict on the bundle of the logs. Returns whether it is `agreed`. */
 static int judge(const struct run *run) {
     uint8_t id[SM_RUN_ID_BYTES];
-    size_t bundle_bytes, count;
+    uint32_t fault = 0;
+    size_t bundle_bytes;
+    const sm_options asked = {id, 1, 1, SM_TEXT};
     sm_answer answer = {0};
     uint8_t *bundle = make_bundle(run, &bundle_bytes);
-    must("sm_run_id", sm_run_id(run->header, run->header_bytes, id, sizeof id, &count), 0);
-    uint32_t status = sm_audit_of(id, 1, 1, bundle, bundle_bytes, &answer);
-    if (status != SM_NO) must("sm_audit_of", status, 0);
+    must("sm_node_run_id", sm_node_run_id(run->header, run->header_bytes, id, &fault), fault);
+    uint32_t status = sm_audit(bundle, bundle_bytes, &asked, &answer);
+    if (status != SM_NO) must("sm_audit", status, 0);
     free(bundle);
     return print_answer(&answer) && status == SM_OK;
 }

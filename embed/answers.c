@@ -15,12 +15,12 @@
 #include <stdbool.h>
 #include <string.h>
 
-/* What the words ask for. */
+/* What the words ask for. The options have the run ids in `runs`. */
 struct job {
     const char *name;
-    uint32_t general, strict, form;
+    uint32_t general;
+    sm_options options;
     uint8_t runs[SM_RUNS_MOST * SM_RUN_ID_BYTES];
-    size_t run_count;
 };
 
 /* The value of a hexadecimal digit, or -1. */
@@ -44,7 +44,8 @@ static bool takes_runs(struct job *job, const char *word) {
         if (value < 0) return false;
         job->runs[place] = (uint8_t)(at % 65 % 2 == 0 ? 16 * value : job->runs[place] + value);
     }
-    job->run_count = count;
+    job->options.runs = job->runs;
+    job->options.run_count = count;
     return true;
 }
 
@@ -62,9 +63,9 @@ static bool is_asked(struct job *job, int words, char **word) {
     job->name = words > 1 ? word[1] : "";
     for (int at = 2; at < words; at++) {
         if (strcmp(word[at], "--strict") == 0) {
-            job->strict = 1;
+            job->options.strict = 1;
         } else if (strcmp(word[at], "--json") == 0) {
-            job->form = SM_JSON;
+            job->options.form = SM_JSON;
         } else if (at + 1 < words && strcmp(word[at], "--run") == 0) {
             if (!takes_runs(job, word[++at])) return false;
         } else if (at + 1 < words && strcmp(word[at], "--general") == 0) {
@@ -79,62 +80,51 @@ static bool is_asked(struct job *job, int words, char **word) {
 
 /* One call of the library. */
 static uint32_t call(const struct job *job, struct bytes input, sm_answer *answer) {
-    const uint8_t *runs = job->run_count != 0 ? job->runs : NULL;
-    size_t count = job->run_count;
-    if (strcmp(job->name, "audit") == 0)
-        return sm_audit_as(runs, count, job->strict, job->form, input.at, input.length, answer);
-    if (strcmp(job->name, "evidence") == 0)
-        return sm_evidence_as(runs, count, job->form, input.at, input.length, answer);
-    if (strcmp(job->name, "decide") == 0) return sm_decide_as(job->form, input.at, input.length, answer);
-    if (strcmp(job->name, "draw") == 0) return sm_draw_of(runs, count, input.at, input.length, answer);
-    if (strcmp(job->name, "accuse") == 0)
-        return sm_accuse_of(runs, count, job->general, input.at, input.length, answer);
-    if (strcmp(job->name, "show") == 0) {
-        if (count == 0 && job->form == SM_TEXT) return sm_show(input.at, input.length, answer);
-        return sm_show_as(runs, count, job->form, input.at, input.length, answer);
+    static const struct {
+        const char *name;
+        uint32_t (*ask)(const uint8_t *, size_t, const sm_options *, sm_answer *);
+        uint32_t (*tell)(const uint8_t *, size_t, sm_answer *);
+    } jobs[] = {
+        {"audit", sm_audit, NULL}, {"evidence", sm_evidence, NULL}, {"decide", sm_decide, NULL},
+        {"draw", sm_draw, NULL},   {"show", sm_show, NULL},         {"explain", NULL, sm_explain},
+        {"words", NULL, sm_words}, {"plan", NULL, sm_plan},         {"run-ids", NULL, sm_run_id},
+    };
+    if (strcmp(job->name, "accuse") == 0) return sm_accuse(job->general, input.at, input.length, &job->options, answer);
+    for (size_t at = 0; at < sizeof jobs / sizeof *jobs; at++) {
+        if (strcmp(job->name, jobs[at].name) != 0) continue;
+        if (jobs[at].ask != NULL) return jobs[at].ask(input.at, input.length, &job->options, answer);
+        return jobs[at].tell(input.at, input.length, answer);
     }
-    if (strcmp(job->name, "explain") == 0) return sm_explain(input.at, input.length, answer);
-    if (strcmp(job->name, "words") == 0) return sm_words(input.at, input.length, answer);
-    if (strcmp(job->name, "plan") == 0) return sm_plan(input.at, input.length, answer);
     return SM_MISUSE;
 }
 
-/* Writes what a call made where sm_tool writes it; returns the exit status. */
-static int tell(uint32_t status, sm_answer *answer) {
-    if (status == SM_MISUSE) return failed(SM_MISUSE, "usage: see the first lines of answers.c");
-    if (status == SM_MEMORY) return failed(SM_MEMORY, "memory");
-    struct bytes text = text_of(answer);
-    if (text.at == NULL) return failed(SM_MEMORY, "memory");
-    bool is_line = status == SM_FAULT || status == SM_OTHER;
-    bool is_written = fwrite(text.at, 1, text.length, is_line ? stderr : stdout) == text.length && fflush(stdout) == 0;
-    free(text.at);
-    if (is_line) return failed(SM_FAULT, "");
-    return is_written ? (int)status : failed(5, "write failed");
+/* Writes the run ids of a file in digits; returns the exit status. */
+static int tell_runs(uint32_t status, sm_answer *answer) {
+    if (status == SM_FAULT) return failed(SM_FAULT, "no whole file");
+    struct bytes ids = status == SM_OK ? text_of(answer) : (struct bytes){NULL, 0};
+    sm_answer_free(answer);
+    if (ids.at == NULL) return failed(SM_MEMORY, "memory");
+    for (size_t at = 0; at < ids.length; at++)
+        printf("%s%02x", at != 0 && at % SM_RUN_ID_BYTES == 0 ? "," : "", ids.at[at]);
+    free(ids.at);
+    return printf("\n") == 1 && fflush(stdout) == 0 ? SM_OK : failed(STREAM_FAILED, "write failed");
 }
 
-/* Writes the run ids of a file; returns the exit status. */
-static int tell_runs(struct bytes input) {
-    uint8_t ids[SM_RUNS_MOST * SM_RUN_ID_BYTES];
-    size_t count = 0;
-    uint32_t status = sm_run_id(input.at, input.length, ids, sizeof ids, &count);
-    if (status == SM_MEMORY) return failed(SM_MEMORY, "memory");
-    if (status != SM_OK) return failed(SM_FAULT, "no whole file");
-    for (size_t at = 0; at < count; at++) printf("%s%02x", at != 0 && at % SM_RUN_ID_BYTES == 0 ? "," : "", ids[at]);
-    return printf("\n") == 1 && fflush(stdout) == 0 ? SM_OK : failed(5, "write failed");
+/* Does a job on standard input; returns the exit status. */
+static int answered(const struct job *job) {
+    sm_answer answer = {0};
+    struct bytes input = read_all();
+    if (ferror(stdin)) {
+        free(input.at);
+        return failed(STREAM_FAILED, "read failed");
+    }
+    if (input.at == NULL) return failed(SM_MEMORY, "memory");
+    uint32_t status = call(job, input, &answer);
+    free(input.at);
+    return strcmp(job->name, "run-ids") == 0 ? tell_runs(status, &answer) : tell(status, &answer);
 }
 
 int main(int words, char **word) {
     struct job job = {0};
-    if (!is_asked(&job, words, word)) return failed(SM_MISUSE, "usage: see the first lines of answers.c");
-    struct bytes input = read_all();
-    if (ferror(stdin)) {
-        free(input.at);
-        return failed(5, "read failed");
-    }
-    if (input.at == NULL) return failed(SM_MEMORY, "memory");
-    sm_answer answer = {0};
-    int told = strcmp(job.name, "run-ids") == 0 ? tell_runs(input) : tell(call(&job, input, &answer), &answer);
-    sm_answer_free(&answer);
-    free(input.at);
-    return told;
+    return is_asked(&job, words, word) ? answered(&job) : failed(SM_MISUSE, "usage: see the first lines of answers.c");
 }

@@ -10,28 +10,46 @@ failed.
 import ctypes
 import sys
 
-YES, NO, GENERAL, FAULT, MEMORY, LENGTH = range(6)
+YES, NO, MISUSE, FAULT, MEMORY, LENGTH, NOBODY = range(7)
 JOBS = ("audit", "draw", "evidence", "decide", "accuse")
+
+
+class Options(ctypes.Structure):
+    """What is asked besides the input. A value without arguments asks for nothing."""
+
+    _fields_ = [("runs", ctypes.c_char_p), ("run_count", ctypes.c_size_t), ("strict", ctypes.c_uint32), ("form", ctypes.c_uint32)]
 
 
 class Library:
     """The functions of a shared library, over bytes."""
 
     def __init__(self, path):
-        self.functions = {job: getattr(ctypes.CDLL(path), f"sm_{job}") for job in JOBS}
-        ends = [ctypes.c_char_p, ctypes.c_size_t, ctypes.c_char_p, ctypes.c_size_t, ctypes.POINTER(ctypes.c_size_t)]
-        for job, function in self.functions.items():
-            function.restype = ctypes.c_uint32
-            function.argtypes = [ctypes.c_uint32, *ends] if job == "accuse" else ends
+        self.calls = ctypes.CDLL(path)
+        ends = [ctypes.c_char_p, ctypes.c_size_t, ctypes.POINTER(Options), ctypes.POINTER(ctypes.c_void_p)]
+        for job in JOBS:
+            self.function(job).argtypes = [ctypes.c_uint32, *ends] if job == "accuse" else ends
+        self.calls.sm_answer_text.argtypes = [*ends[3:], *ends[:2], ctypes.POINTER(ctypes.c_size_t)]
+        self.calls.sm_answer_free.argtypes = ends[3:]
+
+    def function(self, job):
+        """The function of a job."""
+        return getattr(self.calls, f"sm_{job}")
 
     def answer(self, job, given, *general):
         """The number that says what the answer is, and the text or line."""
-        count, room = ctypes.c_size_t(0), ctypes.create_string_buffer(64)
-        while True:
-            status = self.functions[job](*general, given, len(given), room, len(room), ctypes.byref(count))
-            if status != LENGTH:
-                return status, room.raw[: count.value]
+        answer, asked = ctypes.c_void_p(None), Options(b"")
+        try:
+            status = self.function(job)(*general, given, len(given), asked, answer)
+            return status, self.text(answer)
+        finally:
+            self.calls.sm_answer_free(answer)
+
+    def text(self, answer):
+        """The text that an answer holds: none if it holds nothing."""
+        count, room = ctypes.c_size_t(0), ctypes.create_string_buffer(0)
+        while self.calls.sm_answer_text(answer, room, len(room), count) == LENGTH:
             room = ctypes.create_string_buffer(count.value)
+        return room.raw
 
 
 def read():
@@ -72,6 +90,9 @@ def main():
         return failed(5, b"read failed")
     if status in (FAULT, MEMORY):
         return failed(status, text if status == FAULT else b"memory")
+    # Of a general that is none of the run's sm_tool has no evidence, which is a no.
+    if status == NOBODY:
+        return NO
     try:
         write(text)
     except OSError:

@@ -36,8 +36,8 @@ OF_PYTHON = {
 STRUCTS = {it.__doc__.strip("`."): it for it in vars(_libraries).values() if ctypes.Structure in getattr(it, "__bases__", ())}
 for name, struct in STRUCTS.items():
     OF_PYTHON[f"{name} *"] = OF_PYTHON[f"const {name} *"] = ctypes.POINTER(struct)
-# What Rust calls the numbers of C.
-OF_RUST = {"u8": "uint8_t", "u32": "uint32_t", "usize": "size_t"}
+# What Rust calls the numbers of C, and the struct that has a shorter name there.
+OF_RUST = {"u8": "uint8_t", "u32": "uint32_t", "u64": "uint64_t", "usize": "size_t", "Fact": "sm_fact"}
 # The statuses and other numbers that the packages and the page repeat, by their names in the headers.
 PYTHON_NUMBERS = {
     _jobs: {"YES": "SM_OK", "NO": "SM_NO", "MISUSE": "SM_MISUSE", "FAULT": "SM_FAULT", "MEMORY": "SM_MEMORY",
@@ -49,14 +49,20 @@ PYTHON_NUMBERS = {
     _nodes: {"NO_ORDER": "SM_NO_ORDER", "GENERALS": "SM_GENERALS_MOST"},
 }
 RUST_NUMBERS = {"OK": "SM_OK", "NO": "SM_NO", "FAULT": "SM_FAULT", "MEMORY": "SM_MEMORY", "SHORT": "SM_LENGTH",
-                "OTHER": "SM_OTHER", "TEXT": "SM_TEXT", "JSON": "SM_JSON", "NO_ORDER": "SM_NO_ORDER",
-                "VERSION_NUMBER": "SM_VERSION_NUMBER"}
+                "NOBODY": "SM_NOBODY", "OTHER": "SM_OTHER", "TEXT": "SM_TEXT", "JSON": "SM_JSON",
+                "NO_ORDER": "SM_NO_ORDER", "VERSION_NUMBER": "SM_VERSION_NUMBER", "FACT_RUN": "SM_FACT_RUN",
+                "FACT_STATUS": "SM_FACT_STATUS", "FACT_DECISION": "SM_FACT_DECISION",
+                "FACT_FINDING": "SM_FACT_FINDING", "FACT_CONVICTION": "SM_FACT_CONVICTION",
+                "FACT_ACROSS": "SM_FACT_ACROSS", "FACT_EQUAL_ROOTS": "SM_FACT_EQUAL_ROOTS",
+                "VERDICT_AGREED": "SM_VERDICT_AGREED", "VERDICT_EXPLAINED": "SM_VERDICT_EXPLAINED",
+                "VERDICT_NO": "SM_VERDICT_NO"}
 PAGE_NUMBERS = {"YES": "SM_OK", "NO": "SM_NO", "MISUSE": "SM_MISUSE", "FAULT": "SM_FAULT", "MEMORY": "SM_MEMORY",
-                "LENGTH": "SM_LENGTH", "OTHER": "SM_OTHER", "ID_BYTES": "SM_RUN_ID_BYTES", "ROOT_BYTES": "SM_ROOT_BYTES"}
-# What a call of the page for an answer takes before the input: run ids if its name has a form that does, and numbers.
-RUNS = ["const uint8_t *", "size_t"]
+                "OTHER": "SM_OTHER", "ID_BYTES": "SM_RUN_ID_BYTES", "ROOT_BYTES": "SM_ROOT_BYTES", "TEXT_FORM": "SM_TEXT",
+                "JSON_FORM": "SM_JSON", "FACT_RUN": "SM_FACT_RUN", "FACT_FINDING": "SM_FACT_FINDING",
+                "FACT_CONVICTION": "SM_FACT_CONVICTION", "FACT_ACROSS": "SM_FACT_ACROSS"}
+# What a call of the page for an answer takes: a general perhaps, inputs, options perhaps, and the answer.
 INPUT = ["const uint8_t *", "size_t"]
-TO_ROOM = ["uint8_t *", "size_t", "size_t *"]
+OPTIONS = ["const sm_options *"]
 
 
 def without_comments(text):
@@ -91,7 +97,7 @@ def structs_of_c(text):
     """The fields of each struct, as names with types."""
     found = {}
     for inside, name in re.findall(r"typedef struct \{(.*?)\} (\w+);", without_comments(text), re.DOTALL):
-        rows = [re.fullmatch(r"(\w+) (\*?)(.*)", row.strip()).groups() for row in inside.split(";") if row.strip()]
+        rows = [re.fullmatch(r"((?:const )?\w+) (\*?)(.*)", row.strip()).groups() for row in inside.split(";") if row.strip()]
         fields = [(said + (" *" if star else ""), *re.fullmatch(r"\s*(\w+)(.*)", it).groups()) for said, star, names in rows for it in names.split(",")]
         found[name] = [(it, said + array) for said, it, array in fields]
     return found
@@ -135,7 +141,8 @@ def functions_of_rust(text):
 
 def types_of_source(text):
     """The types of C that a parameter of an exported function stands for: a slice is a pointer and a length."""
-    mutable, slices, name = re.fullmatch(r"&(mut )?(\[*)(\w+)(?:; \d+)?\]*(?:; \d+)?\]?", text).groups()
+    plain = re.sub(r"'\w+ |<'\w+>", "", text)
+    mutable, slices, name = re.fullmatch(r"&(mut )?(\[*)(\w+)(?:; \d+)?\]*(?:; \d+)?\]?", plain).groups()
     pointer = f"{'' if mutable else 'const '}{in_c(name)} *"
     is_slice = slices == "[[" or slices == "[" and ";" not in text
     return [pointer, "size_t"] if is_slice else [pointer]
@@ -198,43 +205,60 @@ def wrong_with_rust(text, functions):
     return wrong
 
 
-def wrong_with_page(script, functions):
-    """How what the page exports, and how it calls it, differs from the headers."""
+def list_in(script, name):
+    """The texts of a list of the page's script."""
+    return re.findall(r'"(\w+)"', re.search(rf"const {name} = \[(.*?)\]", script)[1])
+
+
+def wrong_with_page(script, functions, structs):
+    """How what the page exports, how it calls it, and what it reads of a fact, differs from the headers."""
     where, own = "embed/page/make_page.py", read(os.path.join(EMBED, "page", "heap_wasm.c"))
     known = {*functions, *re.findall(r"^[\w ]+[ *](\w+)\(.*\) \{", own, re.MULTILINE)}
     wrong = [f"{where}: {name} is exported, and no header has it" for name in make_page.EXPORTS if name not in known]
-    called = set(re.findall(r'\bof\.(sm_\w+)\(|"(sm_\w+)"', script))
+    where, with_options = "embed/page/judging.js", list_in(script, "WITH_OPTIONS")
+    wanted = [name for name, (given, _) in functions.items() if "const sm_options *" in [said for _, said in given]]
+    wrong += differs(where, "WITH_OPTIONS", sorted(with_options), sorted(wanted))
+    fields = [name for name, said in structs["sm_fact"] if said == "uint32_t"]
+    wrong += differs(where, "FACT_FIELDS", list_in(script, "FACT_FIELDS"), fields[: len(list_in(script, "FACT_FIELDS"))])
+    called = set(re.findall(r'\bof\.(sm_\w+)\(|\(of, (?:\w+, )?"(sm_\w+)"', script))
     lacking = sorted({one or other for one, other in called} - set(make_page.EXPORTS))
-    wrong += [f"embed/page/judging.js: {name} is called, and not exported" for name in lacking]
-    for name, behind in re.findall(r'\bask\(of, "(\w+)", [\w.]+(.*)', script):
+    wrong += [f"{where}: {name} is called, and not exported" for name in lacking]
+    for name, inputs, behind in re.findall(r'\bask\(of, "(\w+)", \[([^\]]*)\](.*)', script):
         numbers = re.match(r", \{[^}]*?numbers: \[([^\]]*)\]", behind)
-        first = RUNS if name.endswith(("_of", "_as")) else []
-        wanted = [*first, *["uint32_t"] * len(parts_of(numbers[1]) if numbers else []), *INPUT, "sm_answer *"]
-        wrong += differs("embed/page/judging.js", name, wanted, types_of(functions, name)[0])
-    for name, inputs in re.findall(r'\bhanded\(of, "(\w+)", (\[[^\]]*\]|inputs)\)', script):
-        count = 2 if inputs == "inputs" else len(parts_of(inputs[1:-1]))
-        wrong += differs("embed/page/judging.js", name, INPUT * count + TO_ROOM, types_of(functions, name)[0])
+        first = ["uint32_t"] * len(parts_of(numbers[1]) if numbers else [])
+        wanted = [*first, *INPUT * len(parts_of(inputs)), *(OPTIONS if name in with_options else []), "sm_answer *"]
+        wrong += differs(where, name, wanted, types_of(functions, name)[0])
     return wrong
 
 
 def structs_of_rust(text):
-    """The fields of each struct that has the layout of C, in the form of those of a header. What a pointer leads to is opaque."""
+    """The fields of each struct that has the layout of C, in the form of those of a header. What a pointer leads to is opaque, but
+    for bytes that are read. A slice is a pointer and a length.
+    """
     found = {}
     plain = re.sub(r"^\s*(pub ghost .*|#\[derive.*)$", "", without_comments(text), flags=re.MULTILINE)
-    for name, inside in re.findall(r"#\[repr\(C\)\]\s*pub struct (\w+) \{(.*?)\}", plain, re.DOTALL):
+    for name, inside in re.findall(r"#\[repr\(C\)\]\s*pub struct (\w+)(?:<'\w+>)? \{(.*?)\}", plain, re.DOTALL):
         rows = [row.split(": ") for row in parts_of(inside.replace("pub ", ""))]
-        found[name] = [(it, re.sub(r"^\w+ \*$", "void *", type_of_rust(said))) for it, said in rows]
+        found[name] = [field for it, said in rows for field in fields_of_rust(it, said)]
     return found
+
+
+def fields_of_rust(name, said):
+    """The fields of C that one of Rust stands for: a slice `runs` is `runs` and `run_count`."""
+    if said.startswith("&"):
+        return list(zip([name, f"{name[:-1]}_count"], types_of_source(said)))
+    return [(name, re.sub(r"^\w+ \*$", "void *", type_of_rust(said)))]
 
 
 def wrong_with_structs(structs):
     """How the structs of the libraries' sources and of the packages differ from those of the headers."""
     wrong, of_ctypes = [], {"uint8_t": ctypes.c_uint8, "uint32_t": ctypes.c_uint32, "size_t": ctypes.c_size_t}
-    of_ctypes["uint8_t[32]"] = ctypes.c_uint8 * 32
+    of_ctypes |= {"uint8_t[32]": ctypes.c_uint8 * 32, "uint64_t": ctypes.c_uint64, "const uint8_t *": ctypes.c_char_p}
     for name, made in STRUCTS.items():
         wanted = [(it, of_ctypes[said]) for it, said in structs.get(name, ())]
         wrong += differs("embed/python/vamuretu/_libraries.py", name, [tuple(it) for it in made._fields_], wanted)
-    folders = [os.path.join(TOP, "crates", name, "src") for name in HEADERS]
+    folders = [os.path.join(TOP, "crates", name, "src") for name in [*HEADERS, "gen_facts"]]
+    folders = [folder for folder in folders if os.path.isdir(folder)]
     sources = [os.path.join(folder, name) for folder in folders for name in sorted(os.listdir(folder))]
     for path in [os.path.join(EMBED, "rust", "src", "raw.rs"), *sources]:
         for name, fields in structs_of_rust(read(path)).items():
@@ -286,10 +310,10 @@ def wrong_with_all():
     wrong = []
     for name in HEADERS:
         wrong += wrong_with_source(name, functions[name]) + wrong_with_python(name, functions[name])
-    wrong += wrong_with_rust(rust, every) + wrong_with_page(script, every) + wrong_with_structs(structs)
+    wrong += wrong_with_rust(rust, every) + wrong_with_page(script, every, structs) + wrong_with_structs(structs)
     for module, names in PYTHON_NUMBERS.items():
         wrong += wrong_with_numbers(f"{module.__name__} of Python", vars(module), names, numbers)
-    of_rust = constants_of(r"const (\w+): u32 = ([\d_]+);", "rust/src/raw.rs", "rust/src/jobs.rs")
+    of_rust = constants_of(r"const (\w+): u32 = ([\d_]+);", "rust/src/raw.rs", "rust/src/jobs.rs", "rust/src/verdicts.rs")
     wrong += wrong_with_numbers("embed/rust/src/", of_rust, RUST_NUMBERS, numbers)
     of_page = constants_of(r"\b([A-Z_]+) = (\d+)\b", "page/judging.js")
     wrong += wrong_with_numbers("embed/page/judging.js", of_page, PAGE_NUMBERS, numbers)

@@ -1,6 +1,6 @@
 #!/usr/bin/env python3
-"""Makes the manual pages of section 3, man/*.3, of the comments of the headers: embed/sm_embed.h, embed/sm_node.h,
-embed/sm_status.h and embed/sm_read.h.
+"""Makes the manual pages of section 3, man/*.3, of the comments of the headers: embed/sm_embed.h, embed/sm_node.h and
+embed/sm_status.h.
 
     tools/man3.py            writes them, and takes away pages of functions that are gone
     tools/man3.py --check    only says whether they are those that the headers make; else the status is 1
@@ -17,17 +17,15 @@ import sys
 from man import plain, safe
 from version import TOP, read, version
 
-# The headers of the libraries, and those that are C alone: the one that both include, and the reader of answers.
+# The headers of the libraries, and the one that both include, which is C alone.
 HEADERS = ["sm_embed", "sm_node"]
-SHARED = ["sm_status", "sm_read"]
+SHARED = ["sm_status"]
 FOLDER = os.path.join(TOP, "man")
 ROW = re.compile(r"(SM_[A-Z0-9]+) {2,}(.*)")
 # What a part of a row of misuse speaks of, and what a function takes that the part fits.
 OF_PARAMETER = {
     "the number of the general": "uint32_t general",
-    "the number of the form": "uint32_t form",
-    "run ids": "size_t run_count",
-    "no text is held": "sm_answer *answer, uint8_t *room",
+    "the options": "sm_options *options",
     "a pointer is null": "size_t ",
 }
 FUNCTION = re.compile(r"^(?:uint32_t|void) (\w+)\(", re.MULTILINE)

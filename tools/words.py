@@ -1,7 +1,7 @@
 #!/usr/bin/env python3
-"""Makes the table of the crate gen_show of docs/WORDS.md.
+"""Makes the table of the crate gen_explain of docs/WORDS.md.
 
-    tools/words.py            writes crates/gen_show/src/table.rt
+    tools/words.py            writes crates/gen_explain/src/table.rt
     tools/words.py --check    only says whether it is the one that the document makes, and whether the rows keep the rules
                               of the document; else the status is 1
 
@@ -16,7 +16,7 @@ TOP = os.path.dirname(os.path.dirname(os.path.abspath(__file__)))
 DOCUMENT = os.path.join(TOP, "docs", "WORDS.md")
 FORMATS = os.path.join(TOP, "docs", "FORMATS.md")
 SCHEMA = os.path.join(TOP, "docs", "verdict.schema.json")
-TABLE = os.path.join(TOP, "crates", "gen_show", "src", "table.rt")
+TABLE = os.path.join(TOP, "crates", "gen_explain", "src", "table.rt")
 
 
 def read(path):
@@ -86,7 +86,7 @@ def main():
     wrong = list(faults_of(found))
     if sys.argv[1:] == ["--check"]:
         if read(TABLE) != table_of_code(found):
-            wrong.append("crates/gen_show/src/table.rt is not the table of docs/WORDS.md: run tools/words.py")
+            wrong.append("crates/gen_explain/src/table.rt is not the table of docs/WORDS.md: run tools/words.py")
     elif not wrong:
         with open(TABLE, "w", encoding="utf-8") as file:
             file.write(table_of_code(found))

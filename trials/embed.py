@@ -21,7 +21,8 @@ from bent import Bases
 from campaigns import bytes_of, pair, slot_twice, text_of
 from devices import READ_FAILED, WRITE_FAILED, by_shell
 from draws import Draws
-from exported import Native, evidence_by_kind, near_wrong
+from exported import Fact, Native, Options, evidence_by_kind, near_wrong
+from facts import row_of, rows_of
 from layout import Bundle, with_shared_root
 from pinned import FILES, answer_of, lists_of, nearly, pinned_cases, read, runs_of, told_cases
 from programs import End, by_library, differs, run, side_by_side, spell
@@ -41,7 +42,11 @@ LARGE = 30_982_809
 # What docs/EMBED.md says is enough stack for a call.
 STACK = 1 << 20
 FILLED = b"\xa5"
-OK, GENERAL, FAULT, MEMORY, LENGTH, NOBODY = 0, 2, 3, 4, 5, 6
+OK, NO, MISUSE, FAULT, MEMORY, LENGTH, NOBODY, OTHER = range(8)
+# What is asked besides the input: nothing, or the form of JSON.
+NOTHING, AS_JSON = (b"", 0, 0), (b"", 0, 1)
+# Of inputs up to this length the facts are compared with the object of the reference, as a process, and of others with the program's.
+REFERENCE, FOR_REFERENCE = os.path.join(TOP, "reference", "sm.py"), 100_000
 
 
 class IsNotBuilt(Exception):
@@ -77,7 +82,7 @@ def build_all(folder):
     }
     made = {name: os.path.join(folder, f"{number}.built") for number, name in enumerate(builds)}
     side_by_side(lambda name: do([*builds[name], "-o", made[name]]), builds)
-    do([*of_cpp, "-fsyntax-only", "-x", "c++", source("sm_read.h")])
+    do([*of_cpp, "-fsyntax-only", "-x", "c++", source("sm_embed.h")])
     twice = lambda name: [made.pop(name), made.pop(f"{name}, sanitized")]
     return made, made.pop("shared"), twice("answers"), twice("typed")
 
@@ -152,14 +157,7 @@ def python_library(shared):
 def end_of(library, job, given):
     """How the program would end that answers as the library does."""
     status, text = library.answer(job[0], given, *map(int, job[1:]))
-    return End(status, b"", text + b"\n") if status == 3 else End(status, text, b"")
-
-
-def called(library, job, given, length, *general):
-    """A call with a room of this length, which is filled before: the number, the count, and what the room has then."""
-    count, room = ctypes.c_size_t(77), ctypes.create_string_buffer(FILLED * length + b"\0")
-    status = library.functions[job](*general, given, len(given), room, length, ctypes.byref(count))
-    return status, count.value, room.raw[:length]
+    return End(status, b"", text + b"\n") if status == FAULT else End(NO if status == NOBODY else status, text, b"")
 
 
 def try_large(program, tally, library, example):
@@ -185,52 +183,31 @@ def try_large_kept(program, tally, example):
     tally.hold("large, kept", first_wrong(lambda words, given: run(example, words, given), cases, wanted))
 
 
-def room_wrong(library, job, given, *general):
-    """None where rooms of each length up to three bytes too many are used as the header says."""
-    status, text = library.answer(job, given, *general)
-    for length in range(len(text) + 4):
-        fits = length >= len(text)
-        room = text + FILLED * (length - len(text)) if fits else FILLED * length
-        wanted = (status if fits else LENGTH, len(text), room)
-        if called(library, job, given, length, *general) != wanted:
-            return f"a room of {length} bytes"
-    return None
-
-
-def try_rooms(library, tally, cases):
-    """Rooms that are too small, just large enough, or larger; and numbers that are no general's."""
-    texts = [(job, given) for job, given in cases if job[0] in ("audit", "decide") and len(given) < 400_000]
-    for job, given in texts:
-        tally.hold(f"rooms, {job[0]} of {len(given)} bytes", room_wrong(library, job[0], given))
-    for general in (16, 255, 256, 2**32 - 1):
-        got = called(library, "accuse", texts[0][1], 9, general)
-        tally.hold(f"general {general}", None if got == (GENERAL, 0, FILLED * 9) else f"{got}")
-
-
-def written(function, *words):
-    """A call with a room that is long enough: the number, and the bytes that it writes."""
-    count, room = ctypes.c_size_t(77), ctypes.create_string_buffer(1 << 17)
-    status = function(*words, room, ctypes.c_size_t(1 << 17), ctypes.byref(count))
-    return status, room.raw[: count.value]
-
-
 def given_as(data):
     """Bytes as a call takes them."""
     return data, ctypes.c_size_t(len(data))
 
 
-def try_answers(tally, program, shared):
-    """A general that is none of the run's has a number of its own, and evidence is answered by the log of the accused."""
-    calls, bundle = ctypes.CDLL(shared), run(program, ["run"], signed()["split"]).wrote
-    parts = Bundle(bundle)
-    for general in range(16):
-        known, any_one = (written(call, general, *given_as(bundle)) for call in (calls.sm_accuse_known, calls.sm_accuse))
-        wanted = any_one if general < parts.front[4 + 1] else (NOBODY, b"")
-        tally.hold(f"known general {general}", None if known == wanted else f"{known[0]}, not {wanted[0]}")
-    evidence = run(program, ["accuse", "--general", "0"], bundle).wrote
-    for log, wanted in ((b"", (3, b"fault L1")), (parts.exhibits[0][1], (1, b"no answer\n"))):
-        got = written(calls.sm_refute, *given_as(evidence), *given_as(log))
-        tally.hold(f"answer by a log of {len(log)} bytes", None if got == wanted else f"{got}, not {wanted}")
+def try_general(tally, program, native):
+    """A general that is none of the run's has a number of its own, and one above 15 is misuse. Runs are compared first."""
+    bundle = run(program, ["run"], signed()["split"]).wrote
+    own, generals = bytes.fromhex(runs_of(program, bundle)[0]), Bundle(bundle).front[4 + 1]
+    for general in (*range(17), 255, 256, 2**32 - 1):
+        end = run(program, ["accuse", "--general", str(min(general, 15))], bundle)
+        wanted = (end.status, end.wrote) if general < generals else (NOBODY if general < 16 else MISUSE, None)
+        for ids, told in ((b"", wanted), (own, wanted), (b"\1" * 32, (OTHER, b"fault R1") if general < 16 else wanted)):
+            got = kept_by(native, "sm_accuse", ("number", general), ("input", bundle), ("options", (ids, 0, 0)))
+            tally.hold(f"general {general}, {len(ids)} bytes of ids", None if got == told else f"{got[0]}, not {told[0]}")
+
+
+def try_reply(tally, program, native):
+    """Evidence that is answered by the log of the accused, by another log, by none, and what is no evidence."""
+    split = run(program, ["run"], signed()["split"]).wrote
+    evidence, logs = run(program, ["accuse", "--general", "0"], split).wrote, dict(Bundle(split).exhibits)
+    wanted = {(evidence, b""): (FAULT, b"fault L1"), (evidence, logs[0]): (NO, b"no answer\n"), (b"", b""): (FAULT, b"fault V1")}
+    for (proof, log), told in {**wanted, (evidence, logs[1]): (NO, b"no answer\n")}.items():
+        got = kept_by(native, "sm_refute", ("input", proof), ("input", log))
+        tally.hold(f"answer by a log of {len(log)} bytes", None if got == told else f"{got}, not {told}")
 
 
 def shown_cases(program):
@@ -323,49 +300,53 @@ def with_equal_roots(program):
 
 
 def try_typed(program, tally, typed, cases):
-    """The texts of verdicts and decisions, made anew of what is read of them, with the statuses of the program."""
-    texts = [case for case in [*cases, *with_equal_roots(program)] if case[0][0] in ("audit", "decide")]
+    """The texts of verdicts and decisions, made of their facts, with the statuses of the program."""
+    texts = [case for case in cases if case[0][0] in ("audit", "decide")]
     wanted = side_by_side(lambda case: by_library(run(program, case[0], case[1])), texts)
     tally.count(len(texts))
     for number, made in enumerate(typed):
         tally.hold(f"typed, {number}", first_wrong(lambda job, given, it=made: run(it, job, given), texts, wanted))
 
 
-def kept_by(calls, function, *words):
-    """A call for an answer: the number, and the text or None if nothing is held."""
-    answer, count = ctypes.c_void_p(None), ctypes.c_size_t(0)
-    status, own = function(*words, ctypes.byref(answer)), ctypes.byref(answer)
-    text = None
-    if answer.value:
-        calls.sm_answer_text(own, b"", ctypes.c_size_t(0), ctypes.byref(count))
-        room = ctypes.create_string_buffer(max(count.value, 1))
-        calls.sm_answer_text(own, room, count, ctypes.byref(count))
-        text = room.raw[: count.value]
-    calls.sm_answer_free(own)
-    return status, text
+def kept_by(native, name, *parts):
+    """A call for an answer: the number, and the text, without facts, or None if nothing is held."""
+    status, length, text = native.end(name, *parts, ("answer", 0))
+    return status, None if length < 0 else text[:length]
 
 
-def try_known(tally, program, shared):
-    """A general that is none of the run's, of runs that are expected, and the answer to evidence that is kept."""
-    calls, bundle = ctypes.CDLL(shared), run(program, ["run"], signed()["split"]).wrote
-    parts, size = Bundle(bundle), ctypes.c_size_t
-    own = bytes.fromhex(runs_of(program, bundle)[0])
-    accuse = lambda call, ids, general: kept_by(calls, call, ids, size(len(ids) // 32), general, *given_as(bundle))
-    for general in range(16):
-        known, any_one = (accuse(it, own, general) for it in (calls.sm_accuse_known_of, calls.sm_accuse_of))
-        wanted = any_one if general < parts.front[4 + 1] else (NOBODY, None)
-        tally.hold(f"known general {general} of a run", None if known == wanted else f"{known[0]}, not {wanted[0]}")
-        tally.hold(f"known general {general} of any run", None if accuse(calls.sm_accuse_known_of, b"", general) == wanted else "")
-        other = accuse(calls.sm_accuse_known_of, b"\1" * 32, general)
-        tally.hold(f"known general {general} of another run", None if other == (7, b"fault R1") else f"{other}")
-    for ids, general in ((own * 5, 0), (own, 16), (own, 2**32 - 1)):
-        got = accuse(calls.sm_accuse_known_of, ids, general)
-        tally.hold(f"known general {general}, {len(ids)} bytes of ids", None if got == (GENERAL, None) else f"{got}")
-    evidence = run(program, ["accuse", "--general", "0"], bundle).wrote
-    for proof, log in ((evidence, b""), (evidence, parts.exhibits[0][1]), (b"", b""), (evidence, parts.exhibits[1][1])):
-        kept = kept_by(calls, calls.sm_refute_kept, *given_as(proof), *given_as(log))
-        wanted = written(calls.sm_refute, *given_as(proof), *given_as(log))
-        tally.hold(f"kept answer by a log of {len(log)} bytes", None if kept == wanted else f"{kept}, not {wanted}")
+def facts_wrong(program, native, job, given):
+    """None where the facts of an answer say what the object of JSON says, and the same in each form, else what is wrong."""
+    words = [*job, "--json"]
+    by_reference = len(given) < FOR_REFERENCE
+    told = run("python3", ["-B", REFERENCE, *words], given) if by_reference else run(program, words, given)
+    wanted = rows_of(told.wrote) if told.status < 2 else None
+    for asked in (NOTHING, AS_JSON, (b"", 1, 0)):
+        rows = rows_by(native, f"sm_{job[0]}", given, asked)
+        if rows != (wanted or []):
+            other = [pair for pair in zip(rows, wanted or []) if pair[0] != pair[1]]
+            return f"{job[0]} of {len(given)} bytes: {len(rows)} facts in place of {len(wanted or [])}: {other[:1]}"
+    return None
+
+
+def rows_by(native, name, given, asked):
+    """The facts of a call, as rows."""
+    status, length, text = native.end(name, ("input", given), ("options", asked), ("answer", 0))
+    behind = text[max(length, 0) :]
+    return [row_of(Fact.from_buffer_copy(behind, at)) for at in range(0, len(behind), ctypes.sizeof(Fact))]
+
+
+def try_facts(program, tally, native, cases):
+    """The facts of each verdict and of each decision, row by row, beside the object of JSON. Faults and other answers have none."""
+    typed = [case for case in cases if case[0][0] in ("audit", "decide")]
+    wrong = side_by_side(lambda case: facts_wrong(program, native, *case), typed)
+    tally.count(len(typed))
+    tally.hold("facts", next(filter(None, wrong), None))
+    found = [it[0] for _, given in typed for it in rows_by(native, "sm_audit", given, NOTHING)]
+    tally.hold("kinds of facts", None if set(found) == set(range(1, 8)) else f"{set(found)}")
+    split = read("split.bundle")
+    others = {"sm_draw": split, "sm_evidence": read("split.evidence"), "sm_show": split}
+    rows = {name: rows_by(native, name, given, NOTHING) for name, given in others.items()}
+    tally.hold("answers without facts", f"{rows}" if any(rows.values()) else None)
 
 
 def try_near(tally, program, native):
@@ -376,40 +357,38 @@ def try_near(tally, program, native):
 
 
 def try_refused_calls(program, tally, folder):
-    """The calls that no example makes, with each allocation refused: number 4 and nothing held, or the whole answer."""
+    """Calls with each allocation refused: number 4 and nothing held, or the whole answer. No example makes some of them."""
     made, heap = os.path.join(folder, "refusing.so"), os.path.join(TOP, "trials", "refusing_heap.c")
     do(["cc", "-std=c11", *WARNINGS, "-fPIC", "-shared", heap, "-Wl,--whole-archive", ARCHIVE, "-Wl,--no-whole-archive", "-o", made])
-    calls, none = ctypes.CDLL(made), (None, ctypes.c_size_t(0))
-    left, blocks = (ctypes.c_long.in_dll(calls, name) for name in ("left", "blocks"))
+    native, nothing = Native(made), ("options", NOTHING)
+    left, blocks = (ctypes.c_long.in_dll(native.calls, name) for name in ("left", "blocks"))
     split = run(program, ["run"], signed()["split"]).wrote
     evidence = run(program, ["accuse", "--general", "0"], split).wrote
-    known = lambda general: kept_by(calls, calls.sm_accuse_known_of, *none, general, *given_as(split))
-    refute = lambda log: kept_by(calls, calls.sm_refute_kept, *given_as(evidence), *given_as(log))
-    asked = {"known 0": lambda: known(0), "known 3": lambda: known(3), "refute": lambda: refute(Bundle(split).exhibits[0][1])}
-    for name, call in {**asked, "refute by no log": lambda: refute(b"")}.items():
-        wanted, got, count = call(), (MEMORY, None), -1
-        while got == (MEMORY, None) and count < 100_000:
+    asked = {f"accuse {it}": ("sm_accuse", ("number", it), ("input", split), nothing) for it in (0, 3)}
+    asked |= {f"refute by {len(log)}": ("sm_refute", ("input", evidence), ("input", log)) for log in (Bundle(split).exhibits[0][1], b"")}
+    asked |= {"decide": ("sm_decide", ("input", signed()["split"]), nothing), "audit": ("sm_audit", ("input", split), nothing)}
+    for name, call in asked.items():
+        wanted, got, count = native.end(*call, ("answer", 0)), None, -1
+        while got in (None, (MEMORY, -1, b"")) and count < 100_000:
             count += 1
             left.value = count
-            got = call()
+            got = native.end(*call, ("answer", 0))
             left.value = -1
         well = got == wanted and count > 0 and blocks.value == 0
         tally.hold(f"{name}, memory", None if well else f"{got[0]} with {count} blocks, {blocks.value} left")
 
 
-def try_forms(tally, shared):
-    """Forms that there are not: misuse, and nothing is held."""
-    calls, split, none = ctypes.CDLL(shared), read("split.bundle"), (None, ctypes.c_size_t(0))
-    asked = {
-        "audit": lambda form: kept_by(calls, calls.sm_audit_as, *none, 0, form, *given_as(split)),
-        "evidence": lambda form: kept_by(calls, calls.sm_evidence_as, *none, form, *given_as(read("split.evidence"))),
-        "decide": lambda form: kept_by(calls, calls.sm_decide_as, form, *given_as(read("split.scenario"))),
-        "show": lambda form: kept_by(calls, calls.sm_show_as, *none, form, *given_as(split)),
-    }
-    for name, call in asked.items():
-        for form in (2, 256, 2**32 - 1):
-            tally.hold(f"{name}, form {form}", None if call(form) == (GENERAL, None) else f"{call(form)}")
-        held = call(1)[1] or b""
+def try_options(tally, native):
+    """Options that no call takes, a form that is none or more than four run ids: misuse, and nothing is held."""
+    inputs = {"sm_evidence": "split.evidence", "sm_decide": "split.scenario"}
+    for name in ("sm_audit", "sm_draw", "sm_accuse", "sm_evidence", "sm_decide", "sm_show"):
+        front = [("number", 0)] if name == "sm_accuse" else []
+        given = ("input", read(inputs.get(name, "split.bundle")))
+        for asked in ((b"", 0, 2), (b"", 0, 256), (b"", 0, 2**32 - 1), (bytes(5 * 32), 0, 0), (bytes(99 * 32), 1, 1)):
+            got = kept_by(native, name, *front, given, ("options", asked))
+            tally.hold(f"{name}, {asked[1:]}", None if got == (MISUSE, None) else f"{got[0]}")
+    for name in ("sm_audit", "sm_evidence", "sm_decide", "sm_show"):
+        held = kept_by(native, name, ("input", read(inputs.get(name, "split.bundle"))), ("options", AS_JSON))[1] or b""
         tally.hold(f"{name} as JSON", None if held.startswith(b"{") and held.endswith(b"}\n") else f"{held[:99]}")
 
 
@@ -432,54 +411,60 @@ def header_of(bundle):
     return bundle[4 : 4 + 7 + 2 * edges + 32 * generals]
 
 
-def try_run_ids(program, tally, shared):
-    """The ids of the runs of files, in rooms of each length."""
-    call = ctypes.CDLL(shared).sm_run_id
+def try_run_ids(program, tally, native):
+    """The ids of the runs of files, and files that are not whole."""
     split = read("split.bundle")
     files = {"bundle": split, "campaign": read("series.bundles"), "evidence": read("split.evidence"), "header": header_of(split)}
     for name, given in files.items():
-        ids = bytes.fromhex("".join(runs_of(program, given)))
-        for length in (*range(0, 140, 7), 31, 32, 33, 127, 128):
-            fits = length >= len(ids)
-            wanted = (OK, len(ids), ids + FILLED * (length - len(ids))) if fits else (LENGTH, len(ids), FILLED * length)
-            got = room_of(call, given, length)
-            tally.hold(f"run ids of a {name}, a room of {length}", None if got == wanted else f"{got}"[:300])
+        wanted = OK, bytes.fromhex("".join(runs_of(program, given)))
+        got = kept_by(native, "sm_run_id", ("input", given))
+        tally.hold(f"run ids of a {name}", None if got == wanted else f"{got}"[:300])
     for name, given in (("nothing", b""), ("a cut bundle", split[:-1]), ("a long header", header_of(split) + b"x"), ("a text", b"x" * 99)):
-        got = room_of(call, given, 40)
-        tally.hold(f"run ids of {name}", None if got == (FAULT, 0, FILLED * 40) else f"{got}")
+        got = kept_by(native, "sm_run_id", ("input", given))
+        tally.hold(f"run ids of {name}", None if got == (FAULT, None) else f"{got}")
 
 
-def room_of(call, given, length):
-    """A call with a room of this length, which is filled before: the number, the count, and what the room has then."""
-    count, room = ctypes.c_size_t(77), ctypes.create_string_buffer(FILLED * length + b"\0")
-    status = call(*given_as(given), room, ctypes.c_size_t(length), ctypes.byref(count))
-    return status, count.value, room.raw[:length]
+def room_of(call, own, length, unit):
+    """A call with room for so many units, which is filled before: the number, the count, and what the room has then."""
+    size = ctypes.sizeof(unit)
+    count, room = ctypes.c_size_t(77), ctypes.create_string_buffer(FILLED * (size * length) + b"\0")
+    status = call(own, room, ctypes.c_size_t(length), ctypes.byref(count))
+    return status, count.value, room.raw[: size * length]
 
 
-def try_answer(tally, shared):
+def rooms_wrong(call, own, unit, held):
+    """None where rooms of each length, up to one unit too many, are used as the header says; nothing is held if `held` is None."""
+    size = ctypes.sizeof(unit)
+    count = len(held or b"") // size
+    for length in range(count + 2):
+        fits = held is not None and length >= count
+        room = (held if fits else b"") + FILLED * (size * length - len(held if fits else b""))
+        wanted = (MISUSE, 0, room) if held is None else (OK if fits else LENGTH, count, room)
+        if room_of(call, own, length, unit) != wanted:
+            return f"a room of {length}: {room_of(call, own, length, unit)}"[:300]
+    return None
+
+
+def try_answer(tally, native):
     """One answer for call after call: what it holds, the rooms for it, and that it holds nothing in the end."""
-    calls, answer = ctypes.CDLL(shared), ctypes.c_void_p(None)
-    split, own = read("split.bundle"), ctypes.byref(answer)
-    text = lambda length: room_of(lambda *ends: calls.sm_answer_text(own, *ends[2:]), b"", length)
-    pinned = lambda ids, given: calls.sm_audit_of(ids, ctypes.c_size_t(len(ids) // 32), 0, *given_as(given), own)
-    verdict, other = read("split.verdict"), b"\1" * 32
-    tally.hold("an answer of nothing", None if text(9) == (GENERAL, 0, FILLED * 9) else f"{text(9)}")
-    steps = [(b"", split, 0, verdict), (other, split, 7, b"fault R1"), (other * 5, split, GENERAL, None), (b"", b"", 3, b"fault B1")]
-    for ids, given, wanted, held in steps:
-        status = pinned(ids, given)
-        is_held = text(0)[1] == len(held) if held is not None else not answer.value
-        tally.hold(f"an answer, {wanted}", None if status == wanted and is_held else f"{status}, {text(99)}")
-        for length in range(len(held or b"") + 2):
-            fits = held is not None and length >= len(held)
-            room = held + FILLED * (length - len(held)) if fits else FILLED * length
-            got = (OK, len(held), room) if fits else (LENGTH, len(held), room) if held is not None else (GENERAL, 0, room)
-            tally.hold(f"an answer, {wanted}, a room of {length}", None if text(length) == got else f"{text(length)}")
-    calls.sm_accuse_of(None, ctypes.c_size_t(0), 16, *given_as(split), own)
+    calls, answer = native.calls, ctypes.c_void_p(None)
+    split, own, verdict = read("split.bundle"), ctypes.byref(answer), read("split.verdict")
+    facts = native.end("sm_audit", ("input", split), ("options", NOTHING), ("answer", 0))[2][len(verdict) :]
+    asked = lambda ids: ctypes.byref(Options(ids, len(ids) // 32, 0, 0))
+    steps = [(None, split, MISUSE, None, None), (b"", split, OK, verdict, facts), (b"\1" * 32, split, OTHER, b"fault R1", b"")]
+    steps += [(bytes(160), split, MISUSE, None, None), (b"", b"", FAULT, b"fault B1", b""), (b"", split, OK, verdict, facts)]
+    for number, (ids, given, wanted, text, rows) in enumerate(steps):
+        status = wanted if ids is None else calls.sm_audit(*given_as(given), asked(ids), own)
+        tally.hold(f"an answer, {number}", None if status == wanted and bool(answer.value) == (text is not None) else f"{status}")
+        tally.hold(f"an answer, {number}, its text", rooms_wrong(calls.sm_answer_text, own, ctypes.c_uint8, text))
+        tally.hold(f"an answer, {number}, its facts", rooms_wrong(calls.sm_answer_facts, own, Fact, rows))
+    calls.sm_accuse(16, *given_as(split), asked(b""), own)
     tally.hold("an answer of no general", f"{answer}" if answer.value else None)
-    pinned(b"", split)
+    calls.sm_audit(*given_as(split), asked(b""), own)
     calls.sm_answer_free(own)
     calls.sm_answer_free(own)
-    tally.hold("a freed answer", None if not answer.value and text(9)[0] == GENERAL else f"{answer}")
+    wrong = rooms_wrong(calls.sm_answer_text, own, ctypes.c_uint8, None) or rooms_wrong(calls.sm_answer_facts, own, Fact, None)
+    tally.hold("a freed answer", wrong if not answer.value else f"{answer}")
 
 
 def try_streams(tally, examples, given):
@@ -551,18 +536,19 @@ def try_built(program, tally, folder):
     try_generals(tally, processes, split)
     try_large(program, tally, library, examples["C"])
     try_large_kept(program, tally, answers[0])
-    try_rooms(library, tally, cases)
-    try_answers(tally, program, shared)
     try_kept(program, tally, answers)
     try_plans(program, tally)
-    try_typed(program, tally, typed, [*cases, *bent])
-    try_known(tally, program, shared)
-    try_near(tally, program, Native(shared))
-    try_forms(tally, shared)
+    native, judged = Native(shared), [*cases, *bent, *with_equal_roots(program)]
+    try_typed(program, tally, typed, judged)
+    try_facts(program, tally, native, judged)
+    try_general(tally, program, native)
+    try_reply(tally, program, native)
+    try_near(tally, program, native)
+    try_options(tally, native)
     try_document(tally, folder)
     try_refused_calls(program, tally, folder)
-    try_run_ids(program, tally, shared)
-    try_answer(tally, shared)
+    try_run_ids(program, tally, native)
+    try_answer(tally, native)
     try_refusals(program, tally, folder, examples["C"], answers[0])
 
 

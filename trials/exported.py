@@ -25,13 +25,13 @@ TOP = os.path.dirname(HERE)
 EMBED = os.path.join(TOP, "embed")
 sys.path.insert(0, os.path.join(TOP, "tools"))
 from abi import functions_of_header  # noqa: E402
+from vamuretu._libraries import Fact, Options  # noqa: E402
 ARCHIVE = os.path.join(TOP, "crates", "sm_embed", "out", "libsm_embed.a")
-FILLED = b"\xa5"
-# A room that is too short for most texts, the bytes of a run id, and how much is shown of what came.
-ROOM, ID_BYTES, SHOWN = 64, 32, 60
-# What is given for a number of each name, and for one of another name.
-NUMBERS = {"general": [0, 1, 2, 15, 16], "strict": [0, 1], "form": [0, 1, 2]}
-OTHERS = [0, 1, 2, 16]
+# The bytes of a run id, and how much is shown of what came.
+ID_BYTES, SHOWN = 32, 60
+# What is given for a number, and in options beside the run ids. The calls that have a form; a form that is none is given to all.
+GENERALS, STRICT, FORMS, NO_FORM = (0, 1, 2, 15, 16), (0, 1), (0, 1), 2
+WITH_FORM, WITH_STRICT = ("sm_audit", "sm_evidence", "sm_decide", "sm_show"), ("sm_audit",)
 OK, NO, LENGTH, OTHER = 0, 1, 5, 7
 OTHER_LINE = b"fault R1"
 KINDS = "12345"
@@ -43,22 +43,23 @@ SEED = "PAGE_SEED"
 
 def kind_of(name, said):
     """What a parameter of the header stands for, by its name and type. None for a length, which goes with the pointer before it."""
-    if name.endswith(("_bytes", "count")):
+    if name.endswith("_bytes"):
         return None
-    return "number" if said == "uint32_t" else name if name in ("runs", "room", "answer") else "input"
+    return "number" if said == "uint32_t" else name if name in ("options", "answer") else "input"
 
 
 def declared():
-    """What each call takes that makes a text of an input, in its order: pairs of a kind and a name."""
+    """What each call takes that makes an answer of an input, in its order."""
     functions = functions_of_header("sm_embed")
-    kinds = {name: [(kind_of(*it), it[0]) for it in parameters] for name, (parameters, _) in functions.items()}
-    return {name: [it for it in takes if it[0]] for name, takes in kinds.items() if "input" in dict(takes)}
+    kinds = {name: list(filter(None, (kind_of(*it) for it in parameters))) for name, (parameters, _) in functions.items()}
+    return {name: takes for name, takes in kinds.items() if "answer" in takes and not name.startswith("sm_answer_")}
 
 
 CALLS = declared()
-OF_RUNS = [name for name, takes in CALLS.items() if ("runs", "runs") in takes]
-# Of these the calls that take evidence, and those that take any file; the others take bundles and campaigns.
-OF_EVIDENCE, OF_ALL = ("sm_evidence_of", "sm_evidence_as"), ("sm_show_as",)
+# The calls that compare run ids. Of these the calls that take evidence, and those that take any file; the others take bundles and
+# campaigns.
+OF_RUNS = [name for name, takes in CALLS.items() if "options" in takes and name != "sm_decide"]
+OF_EVIDENCE, OF_ALL = ("sm_evidence",), ("sm_show",)
 
 
 # The native library.
@@ -79,53 +80,64 @@ class Native:
         self.calls = ctypes.CDLL(shared)
 
     def end(self, name, *parts):
-        """What a call comes to: the number, the count, and the whole room, which is filled before, or what the answer holds. The
-        count is -1 if nothing is held.
+        """What a call comes to: the number, the length of the text that is held, and the text with the bytes of the facts behind it.
+        The length is -1 if nothing is held.
         """
-        words, count, answer, room = [], ctypes.c_size_t(0), ctypes.c_void_p(None), None
+        words, answer = [], ctypes.c_void_p(None)
         for kind, it in parts:
             if kind == "number":
                 words.append(ctypes.c_uint32(it))
+            elif kind == "options":
+                words.append(ctypes.byref(Options(it[0], len(it[0]) // ID_BYTES, *it[1:])))
             elif kind == "answer":
                 words.append(ctypes.byref(answer))
-            elif kind == "room":
-                room = ctypes.create_string_buffer(FILLED * it + b"\0")
-                words += [room, ctypes.c_size_t(it), ctypes.byref(count)]
             else:
-                words += [it, ctypes.c_size_t(len(it) // (ID_BYTES if kind == "runs" else 1))]
+                words += [it, ctypes.c_size_t(len(it))]
         status = self.calls[name](*words)
-        return (status, *self.held(answer)) if room is None else (status, count.value, room.raw[:-2])
+        text, facts = self.held(answer)
+        return status, -1 if text is None else len(text), (text or b"") + b"".join(map(bytes, facts))
 
     def held(self, answer):
-        """The count and the text of an answer, which holds nothing then."""
-        own, count, text = ctypes.byref(answer), ctypes.c_size_t(0), b""
-        if not answer.value:
-            return -1, text
-        self.calls.sm_answer_text(own, b"", ctypes.c_size_t(0), ctypes.byref(count))
-        room = ctypes.create_string_buffer(count.value + 1)
-        self.calls.sm_answer_text(own, room, count, ctypes.byref(count))
+        """The text and the facts of an answer, which holds nothing then; None in place of the text if it held nothing."""
+        own, text, facts = ctypes.byref(answer), None, []
+        if answer.value:
+            text = bytes(self.taken(self.calls.sm_answer_text, own, ctypes.c_uint8))
+            facts = list(self.taken(self.calls.sm_answer_facts, own, Fact))
         self.calls.sm_answer_free(own)
-        return count.value, room.raw[: count.value]
+        return text, facts
+
+    def taken(self, call, own, unit):
+        """What a call writes of an answer, in room that is just large enough."""
+        count, room = ctypes.c_size_t(0), (unit * 0)()
+        while call(own, room, ctypes.c_size_t(len(room)), ctypes.byref(count)) == LENGTH:
+            room = (unit * count.value)()
+        return room
 
 
 # Cases. A case is the name of a call and what it takes, each as a pair of a kind and a value.
 
 
-def cases_on(given, seconds=(b"",), lists=(b"",), numbers=None, names=CALLS):
-    """Each call on an input: of each list of run ids, with each number, and with each second input if it takes two."""
+def asked_of(name, lists, strict=STRICT, forms=(*FORMS, NO_FORM)):
+    """What is asked of a call besides the input: each list of run ids, with what the call looks at besides."""
+    strict = strict if name in WITH_STRICT else [0]
+    forms = forms if name in WITH_FORM else [form for form in forms if form != 1]
+    return [(runs, *others) for runs in lists for others in itertools.product(strict, forms)]
+
+
+def cases_on(given, seconds=(b"",), lists=(b"",), generals=GENERALS, names=CALLS, **asked):
+    """Each call on an input: with options of each list of run ids, of each general, and with each second input if it takes two."""
     for name in names:
         inputs, every = [[given], seconds], []
-        for kind, of in CALLS[name]:
-            fixed = {"runs": lists, "room": [ROOM], "answer": [0]}
-            values = (numbers or NUMBERS).get(of, OTHERS) if kind == "number" else inputs.pop(0) if kind == "input" else fixed[kind]
-            every.append([(kind, it) for it in values])
+        for kind in CALLS[name]:
+            values = {"options": asked_of(name, lists, **asked), "answer": [0], "number": generals}
+            every.append([(kind, it) for it in (inputs.pop(0) if kind == "input" else values[kind])])
         yield from ([name, *chosen] for chosen in itertools.product(*every))
 
 
 def own_runs(native, given):
     """The ids of the runs that a file is of, by the library; one of zeros if it is of none."""
-    status, count, room = native.end("sm_run_id", ("input", given), ("room", 4 * ID_BYTES))
-    return room[:count] if status == OK else bytes(ID_BYTES)
+    status, _, ids = native.end("sm_run_id", ("input", given), ("answer", 0))
+    return ids if status == OK else bytes(ID_BYTES)
 
 
 def takes_file(name, given):
@@ -135,8 +147,8 @@ def takes_file(name, given):
 
 def pinned_on(native, given, lists):
     """The calls that take a file with run ids, of each of these lists."""
-    numbers = {"general": [0], "strict": [0, 1], "form": [0, 1]}
-    return cases_on(given, lists=lists, numbers=numbers, names=[name for name in OF_RUNS if takes_file(name, given)])
+    names = [name for name in OF_RUNS if takes_file(name, given)]
+    return cases_on(given, lists=lists, generals=[0], forms=FORMS, names=names)
 
 
 def near_cases(native, given):
@@ -172,7 +184,7 @@ def evidence_by_kind(program, native, bases):
     """A piece of evidence of each of the five kinds, by a name, of which the library shows the kind."""
     across = bytes_of(*slot_twice(program))
     found = [*bases.evidence, *(run(program, ["accuse", "--general", general], across).wrote for general in "01")]
-    shown = lambda given: native.end("sm_show", ("input", given), ("answer", 0))[2]
+    shown = lambda given: native.end("sm_show", ("input", given), ("options", (b"", 0, 0)), ("answer", 0))[2]
     kinds = {re.search(rb"^kind (\d)", shown(it), re.M)[1].decode(): it for it in found if it}
     return {f"evidence of kind {kind}": kinds[kind] for kind in KINDS}
 
@@ -188,25 +200,16 @@ def whole_cases(native, evidence, logs):
 
 
 def as_told(status, count, text):
-    """What a case comes to, as page_calls.mjs tells it."""
+    """What a case comes to, as page_calls.mjs tells it: of the text and of the facts behind it a digest."""
     return [status, count, hashlib.sha256(text).hexdigest(), text[:SHOWN].decode("latin1")]
-
-
-def with_ends(native, cases):
-    """Cases with what they natively come to. A call whose room is too short is one more case, with room enough."""
-    for name, *parts in cases:
-        end = native.end(name, *parts)
-        yield [name, *parts], as_told(*end)
-        if end[0] == LENGTH:
-            parts = [(kind, end[1] if kind == "room" else it) for kind, it in parts]
-            yield [name, *parts], as_told(*native.end(name, *parts))
 
 
 def spelled(cases):
     """Cases as page_calls.mjs reads them: each text stands once."""
     texts = {}
-    number = lambda kind, it: texts.setdefault(it, len(texts)) if kind in ("runs", "input") else it
-    told = [[name, *([kind, number(kind, it)] for kind, it in parts)] for name, *parts in cases]
+    number = lambda it: texts.setdefault(it, len(texts))
+    spell = {"input": number, "options": lambda it: [number(it[0]), *it[1:]]}
+    told = [[name, *([kind, spell.get(kind, int)(it)] for kind, it in parts)] for name, *parts in cases]
     return json.dumps({"lengths": list(map(len, texts)), "cases": told}).encode() + b"\n" + b"".join(texts)
 
 
@@ -222,17 +225,17 @@ def first_other(cases, ends, wanted):
     """None where each case comes to what is wanted, else the first that comes to something else."""
     if len(ends) != len(wanted):
         return f"{len(ends)} ends of {len(wanted)} cases"
-    spell = lambda case: " ".join([case[0], *(it.hex()[:256] if kind == "runs" else str(it)[:40] for kind, it in case[1:])])
+    spell = lambda case: " ".join([case[0], *(f"{it[0].hex()} {it[1:]}" if kind == "options" else str(it)[:40] for kind, it in case[1:])])
     other = (f"{spell(case)}: {end} in place of {want}" for case, end, want in zip(cases, ends, wanted) if end != want)
     return next(other, None)
 
 
 def compare(native, words, cases):
     """None where the module comes to what the native library comes to in all cases, else the first difference."""
-    asks, wanted = zip(*with_ends(native, cases))
-    pieces = [asks[at : at + AT_ONCE] for at in range(0, len(asks), AT_ONCE)]
+    wanted = [as_told(*native.end(*case)) for case in cases]
+    pieces = [cases[at : at + AT_ONCE] for at in range(0, len(cases), AT_ONCE)]
     found = side_by_side(lambda piece: asked(words, piece)["ends"], pieces)
-    return first_other(asks, [end for ends in found for end in ends], wanted)
+    return first_other(cases, [end for ends in found for end in ends], wanted)
 
 
 def near_wrong(native, given):
@@ -256,8 +259,8 @@ def call_cases(program, native, bases, seed):
     for name, given in [*((name, read(name)) for name in FILES), *kinds.items()]:
         yield f"near runs of {name}", near_cases(native, given)
     large = run(program, ["run"], sixteen()).wrote
-    few = {"general": [0], "strict": [0], "form": [0, 1]}
-    yield "a bundle of 16 generals", list(cases_on(large, lists=[own_runs(native, large)], numbers=few))
+    few = {"generals": [0], "strict": [0], "forms": FORMS}
+    yield "a bundle of 16 generals", list(cases_on(large, lists=[own_runs(native, large)], **few))
     yield f"bent files of the seed {seed}", list(bent_cases(native, bases, f"page {seed}"))
 
 

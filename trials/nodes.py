@@ -34,9 +34,12 @@ int main(void) {
     const uint8_t seed[33] = SEED;
     uint8_t root[32], room[100];
     sm_node keys = {0};
+    sm_answer answer = {0};
     size_t count;
-    if (sm_audit(seed, 0, room, sizeof room, &count) != SM_FAULT || sm_node_keys(&keys, seed, 1, root) != SM_OK) return 1;
+    if (sm_audit(seed, 0, NULL, &answer) != SM_FAULT || sm_node_keys(&keys, seed, 1, root) != SM_OK) return 1;
+    if (sm_answer_text(&answer, room, sizeof room, &count) != SM_OK) return 1;
     sm_node_free(&keys);
+    sm_answer_free(&answer);
     for (int place = 0; place < 32; place++) printf("%02x", root[place]);
     printf("\n%.*s\n", (int)count, (const char *)room);
     return 0;

@@ -2,7 +2,6 @@
    line tells the first place that is not. trials/nodes.py builds it over both archives. */
 #include "sm_embed.h"
 #include "sm_node.h"
-#include "sm_read.h"
 #include <stdio.h>
 #include <string.h>
 
@@ -14,79 +13,64 @@
         }                                                                                                              \
     } while (0)
 
-/* Whether a room begins with a line, whose length was told. */
-static int is_line(const uint8_t *room, size_t count, const char *line) {
-    return count == strlen(line) && memcmp(room, line, count) == 0;
+/* Whether an answer holds a line, without facts. */
+static int is_line(sm_answer *answer, const char *line) {
+    uint8_t room[200];
+    size_t count = 77;
+    if (sm_answer_text(answer, room, sizeof room, &count) != SM_OK || count != strlen(line)) return 0;
+    return memcmp(room, line, count) == 0 && sm_answer_facts(answer, NULL, 0, &count) == SM_OK && count == 0;
 }
 
-/* The jobs take no bytes at null, and no bytes at null that there are. */
+/* The jobs take no bytes at null, and no bytes at null that there are; then nothing is held. So it is with run ids. */
 static int jobs(void) {
-    uint8_t room[200] = {0};
-    size_t count = 77;
-    WANT(sm_audit(NULL, 0, room, sizeof room, &count) == SM_FAULT && is_line(room, count, "fault B1"));
-    WANT(sm_audit(NULL, 0, NULL, 0, &count) == SM_LENGTH && count == 8);
-    WANT(sm_audit(NULL, 1, room, sizeof room, &count) == SM_MISUSE && count == 0);
-    WANT(sm_audit(room, 0, NULL, 1, &count) == SM_MISUSE && count == 0);
-    WANT(sm_draw(NULL, 0, room, sizeof room, &count) == SM_FAULT && is_line(room, count, "fault B1"));
-    WANT(sm_draw(NULL, 1, room, sizeof room, &count) == SM_MISUSE && count == 0);
-    WANT(sm_evidence(NULL, 0, room, sizeof room, &count) == SM_FAULT && is_line(room, count, "fault V1"));
-    WANT(sm_evidence(NULL, 1, room, sizeof room, &count) == SM_MISUSE && count == 0);
-    WANT(sm_decide(NULL, 0, room, sizeof room, &count) == SM_FAULT && is_line(room, count, "fault P1 line 1"));
-    WANT(sm_decide(NULL, 1, room, sizeof room, &count) == SM_MISUSE && count == 0);
-    WANT(sm_accuse(0, NULL, 0, NULL, 0, &count) == SM_LENGTH && count == 8);
-    WANT(sm_accuse(16, NULL, 0, NULL, 0, &count) == SM_MISUSE && count == 0);
-    WANT(sm_accuse(0, NULL, 1, room, sizeof room, &count) == SM_MISUSE && count == 0);
-    WANT(sm_accuse_known(0, NULL, 0, room, sizeof room, &count) == SM_FAULT && is_line(room, count, "fault B1"));
-    WANT(sm_accuse_known(16, NULL, 0, NULL, 0, &count) == SM_MISUSE && count == 0);
-    WANT(sm_accuse_known(0, room, 1, NULL, 1, &count) == SM_MISUSE && count == 0);
-    WANT(sm_refute(NULL, 0, NULL, 0, room, sizeof room, &count) == SM_FAULT && is_line(room, count, "fault V1"));
-    WANT(sm_refute(NULL, 1, NULL, 0, room, sizeof room, &count) == SM_MISUSE && count == 0);
-    WANT(sm_refute(NULL, 0, NULL, 1, room, sizeof room, &count) == SM_MISUSE && count == 0);
-    WANT(sm_refute(NULL, 0, NULL, 0, NULL, 1, &count) == SM_MISUSE && count == 0);
+    const sm_options none = {0}, missing = {NULL, 1, 0, SM_TEXT}, json = {NULL, 0, 0, SM_JSON};
+    uint8_t byte = 0;
+    sm_answer answer = {0};
+    WANT(sm_audit(NULL, 0, NULL, &answer) == SM_FAULT && is_line(&answer, "fault B1"));
+    WANT(sm_audit(NULL, 1, NULL, &answer) == SM_MISUSE && answer.at == NULL);
+    WANT(sm_audit(&byte, 0, &none, &answer) == SM_FAULT && is_line(&answer, "fault B1"));
+    WANT(sm_audit(NULL, 0, &json, &answer) == SM_FAULT && is_line(&answer, "fault B1"));
+    WANT(sm_audit(NULL, 0, &missing, &answer) == SM_MISUSE && answer.at == NULL);
+    WANT(sm_draw(NULL, 0, NULL, &answer) == SM_FAULT && is_line(&answer, "fault B1"));
+    WANT(sm_draw(NULL, 1, NULL, &answer) == SM_MISUSE && answer.at == NULL);
+    WANT(sm_draw(NULL, 0, &missing, &answer) == SM_MISUSE && answer.at == NULL);
+    WANT(sm_accuse(0, NULL, 0, NULL, &answer) == SM_FAULT && is_line(&answer, "fault B1"));
+    WANT(sm_accuse(16, NULL, 0, NULL, &answer) == SM_MISUSE && answer.at == NULL);
+    WANT(sm_accuse(0, NULL, 1, NULL, &answer) == SM_MISUSE && answer.at == NULL);
+    WANT(sm_accuse(0, NULL, 0, &missing, &answer) == SM_MISUSE && answer.at == NULL);
+    WANT(sm_evidence(NULL, 0, NULL, &answer) == SM_FAULT && is_line(&answer, "fault V1"));
+    WANT(sm_evidence(NULL, 1, &none, &answer) == SM_MISUSE && answer.at == NULL);
+    WANT(sm_decide(NULL, 0, NULL, &answer) == SM_FAULT && is_line(&answer, "fault P1 line 1"));
+    WANT(sm_decide(NULL, 1, NULL, &answer) == SM_MISUSE && answer.at == NULL);
+    WANT(sm_show(NULL, 0, NULL, &answer) == SM_NO && answer.at != NULL);
+    WANT(sm_show(NULL, 1, NULL, &answer) == SM_MISUSE && answer.at == NULL);
+    WANT(sm_refute(NULL, 0, NULL, 0, &answer) == SM_FAULT && is_line(&answer, "fault V1"));
+    WANT(sm_refute(NULL, 1, NULL, 0, &answer) == SM_MISUSE && answer.at == NULL);
+    WANT(sm_refute(NULL, 0, NULL, 1, &answer) == SM_MISUSE && answer.at == NULL);
+    WANT(sm_words(NULL, 0, &answer) == SM_OK && is_line(&answer, ""));
+    WANT(sm_words(NULL, 1, &answer) == SM_MISUSE && answer.at == NULL);
+    WANT(sm_plan(NULL, 0, &answer) == SM_FAULT && answer.at != NULL);
+    WANT(sm_run_id(NULL, 0, &answer) == SM_FAULT && answer.at == NULL);
+    WANT(sm_run_id(NULL, 1, &answer) == SM_MISUSE && answer.at == NULL);
     return 0;
 }
 
-/* So do the calls for answers, which then hold nothing. */
+/* So do the calls that write what an answer holds, which stays as it is. */
 static int answers(void) {
-    uint8_t room[200] = {0};
-    size_t count = 77;
     sm_answer answer = {0};
-    WANT(sm_run_id(NULL, 0, room, sizeof room, &count) == SM_FAULT && count == 0);
-    WANT(sm_run_id(NULL, 1, room, sizeof room, &count) == SM_MISUSE && count == 0);
-    WANT(sm_audit_of(NULL, 0, 0, NULL, 0, &answer) == SM_FAULT && answer.at != NULL);
-    WANT(sm_answer_text(&answer, room, sizeof room, &count) == SM_OK && is_line(room, count, "fault B1"));
-    WANT(sm_answer_text(&answer, NULL, 0, &count) == SM_LENGTH && count == 8);
-    WANT(sm_answer_text(&answer, NULL, 1, &count) == SM_MISUSE && count == 0 && answer.at != NULL);
-    WANT(sm_audit_of(NULL, 1, 0, NULL, 0, &answer) == SM_MISUSE && answer.at == NULL);
-    WANT(sm_audit_of(NULL, 0, 0, NULL, 1, &answer) == SM_MISUSE && answer.at == NULL);
-    WANT(sm_draw_of(NULL, 0, NULL, 0, &answer) == SM_FAULT && answer.at != NULL);
-    WANT(sm_draw_of(NULL, 1, NULL, 0, &answer) == SM_MISUSE && answer.at == NULL);
-    WANT(sm_evidence_of(NULL, 0, NULL, 0, &answer) == SM_FAULT && answer.at != NULL);
-    WANT(sm_evidence_of(NULL, 0, NULL, 1, &answer) == SM_MISUSE && answer.at == NULL);
-    WANT(sm_accuse_of(NULL, 0, 0, NULL, 0, &answer) == SM_FAULT && answer.at != NULL);
-    WANT(sm_accuse_of(NULL, 0, 16, NULL, 0, &answer) == SM_MISUSE && answer.at == NULL);
-    WANT(sm_accuse_known_of(NULL, 0, 0, NULL, 0, &answer) == SM_FAULT && answer.at != NULL);
-    WANT(sm_accuse_known_of(NULL, 1, 0, NULL, 0, &answer) == SM_MISUSE && answer.at == NULL);
-    WANT(sm_refute_kept(NULL, 0, NULL, 0, &answer) == SM_FAULT && answer.at != NULL);
-    WANT(sm_refute_kept(NULL, 0, NULL, 1, &answer) == SM_MISUSE && answer.at == NULL);
-    WANT(sm_audit_as(NULL, 0, 0, SM_JSON, NULL, 0, &answer) == SM_FAULT && answer.at != NULL);
-    WANT(sm_audit_as(NULL, 0, 0, 2, NULL, 0, &answer) == SM_MISUSE && answer.at == NULL);
-    WANT(sm_evidence_as(NULL, 0, SM_TEXT, NULL, 0, &answer) == SM_FAULT && answer.at != NULL);
-    WANT(sm_evidence_as(NULL, 0, SM_TEXT, NULL, 1, &answer) == SM_MISUSE && answer.at == NULL);
-    WANT(sm_decide_as(SM_JSON, NULL, 0, &answer) == SM_FAULT && answer.at != NULL);
-    WANT(sm_decide_as(SM_JSON, NULL, 1, &answer) == SM_MISUSE && answer.at == NULL);
-    WANT(sm_show(NULL, 0, &answer) == SM_NO && answer.at != NULL);
-    WANT(sm_show(NULL, 1, &answer) == SM_MISUSE && answer.at == NULL);
-    WANT(sm_show_as(NULL, 0, SM_JSON, NULL, 0, &answer) == SM_NO && answer.at != NULL);
-    WANT(sm_show_as(NULL, 0, 2, NULL, 0, &answer) == SM_MISUSE && answer.at == NULL);
-    WANT(sm_show_as(NULL, 1, SM_TEXT, NULL, 0, &answer) == SM_MISUSE && answer.at == NULL);
-    WANT(sm_show_as(NULL, 0, SM_TEXT, NULL, 1, &answer) == SM_MISUSE && answer.at == NULL);
+    uint8_t byte = 0;
+    sm_fact fact;
+    size_t count = 77;
+    WANT(sm_answer_text(&answer, &byte, 1, &count) == SM_MISUSE && count == 0);
+    WANT(sm_answer_facts(&answer, &fact, 1, &count) == SM_MISUSE && count == 0);
     WANT(sm_explain(NULL, 0, &answer) == SM_OK && answer.at != NULL);
     WANT(sm_answer_text(&answer, NULL, 0, &count) == SM_LENGTH && count > 0);
-    WANT(sm_words(NULL, 0, &answer) == SM_OK && answer.at != NULL);
-    WANT(sm_plan(NULL, 0, &answer) == SM_FAULT && answer.at != NULL);
+    WANT(sm_answer_text(&answer, NULL, 1, &count) == SM_MISUSE && count == 0 && answer.at != NULL);
+    WANT(sm_answer_facts(&answer, NULL, 0, &count) == SM_OK && count == 0);
+    WANT(sm_answer_facts(&answer, NULL, 1, &count) == SM_MISUSE && count == 0 && answer.at != NULL);
     sm_answer_free(&answer);
-    WANT(sm_answer_text(&answer, room, sizeof room, &count) == SM_MISUSE && count == 0 && answer.at == NULL);
+    WANT(sm_answer_text(&answer, NULL, 0, &count) == SM_MISUSE && count == 0 && answer.at == NULL);
+    WANT(sm_answer_facts(&answer, NULL, 0, &count) == SM_MISUSE && count == 0 && answer.at == NULL);
     return 0;
 }
 
@@ -141,25 +125,9 @@ static int nodes(void) {
     return 0;
 }
 
-/* The text of a verdict that was asked for strictly may end with equal roots. */
-static int equal_roots(void) {
-    static const char text[] = "run 0000000000000000000000000000000000000000000000000000000000000000\nverdict agreed 1\nend\n"
-                               "equal roots 0 3\nequal roots 2 15\n";
-    static sm_judgement judgement;
-    const uint8_t *at = (const uint8_t *)text;
-    WANT(sm_read_judgement(at, sizeof text - 1, &judgement) == SM_OK && judgement.equal_count == 2);
-    WANT(judgement.equal[0].second == 3 && judgement.equal[1].first == 2 && judgement.equal[1].second == 15);
-    WANT(sm_read_judgement(at, sizeof text - 2, &judgement) == SM_FAULT);
-    return 0;
-}
-
-/* No text is none of a verdict, and no decision, and the old names stand for the new ones. */
+/* The old names of sm_node.h stand for the new ones. */
 static int names(void) {
-    sm_judgement judgement;
-    sm_run_decision decisions[SM_GENERALS_MOST];
     uint32_t number = 77, fault = 77;
-    WANT(sm_read_judgement(NULL, 0, &judgement) == SM_FAULT);
-    WANT(sm_read_decisions(NULL, 0, decisions, &number) == SM_OK && number == 0);
     WANT(sm_rounds(NULL, 1, &number, &fault) == SM_MISUSE && sm_fault_text(SM_F1) == sm_node_fault_text(SM_F1));
     return 0;
 }
@@ -173,4 +141,4 @@ static int texts(void) {
     return 0;
 }
 
-int main(void) { return jobs() || answers() || nodes() || equal_roots() || names() || texts(); }
+int main(void) { return jobs() || answers() || nodes() || names() || texts(); }

@@ -9,14 +9,14 @@
 import fs from "node:fs";
 import { pageOf } from "./page_module.mjs";
 
-const names = ["NO", "ask", "foundAgainst", "handed", "joined", "put"];
-const { of, NO, ask, foundAgainst, handed, joined, put } = await pageOf(process.argv[2], names);
+const names = ["NO", "ask", "foundAgainst", "joined", "put"];
+const { of, NO, ask, foundAgainst, joined, put } = await pageOf(process.argv[2], names);
 const cases = fs.readFileSync(0);
 
 // What evidence and a log behind it come to, with what is found against the log.
 function refuted(given, length) {
   const parts = [given.subarray(0, length), given.subarray(length)], inputs = parts.map(it => put(of, it));
-  const { end, bytes } = handed(of, "sm_refute", inputs);
+  const { end, bytes } = ask(of, "sm_refute", inputs);
   for (const { at } of inputs) of.give_back(at);
   return { end, bytes: joined([bytes, new TextEncoder().encode(end === NO ? foundAgainst(of, ...parts) : "")]) };
 }
@@ -24,7 +24,7 @@ function refuted(given, length) {
 // What a call comes to.
 function answerOf(call, given, runs, numbers) {
   if (call === "sm_refute") return refuted(given, ...numbers);
-  const input = put(of, given), answer = ask(of, call, input, { runs, numbers });
+  const input = put(of, given), answer = ask(of, call, [input], { runs, numbers });
   of.give_back(input.at);
   return answer;
 }

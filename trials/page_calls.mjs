@@ -3,15 +3,16 @@
 //     node page_calls.mjs PAGE MODULE < CASES > ENDS
 //
 // CASES is a line of JSON, `{"lengths": .., "cases": ..}`, and behind it the texts of these lengths. A case is the name of a call
-// and what it takes, each as a pair: ["runs", T] and ["input", T] with the number of a text, ["number", N], ["room", N] with the
-// bytes of the room, or ["answer", 0]. ENDS is JSON too, with the version of the library, and for each case the number, the count,
-// and the SHA-256 and the beginning of the whole room or of what is held. The count is -1 if nothing is held.
+// and what it takes, each as a pair: ["input", T] with the number of a text, ["number", N], ["options", [T, S, F]] with the text
+// of the run ids, how strictly and the form, or ["answer", 0]. ENDS is JSON too, with the version of the library, and for each
+// case the number, the length of the text that is held, and the SHA-256 and the beginning of the text and the facts behind it. The
+// length is -1 if nothing is held.
 import crypto from "node:crypto";
 import fs from "node:fs";
 import { pageOf } from "./page_module.mjs";
 
-const ID_BYTES = 32, POINTER_BYTES = 8, FILLED = 0xa5, SHOWN = 60;
-const { of, heldBy, put } = await pageOf(process.argv[2], ["heldBy", "put"], process.argv[3]);
+const ID_BYTES = 32, POINTER_BYTES = 8, OPTIONS_BYTES = 24, FACT_BYTES = 88, SHOWN = 60;
+const { of, heldBy, joined, put } = await pageOf(process.argv[2], ["heldBy", "joined", "put"], process.argv[3]);
 const given = fs.readFileSync(0), behind = given.indexOf(10) + 1;
 const { lengths, cases } = JSON.parse(given.subarray(0, behind));
 const texts = [];
@@ -21,31 +22,36 @@ const numberAt = at => new DataView(of.memory.buffer).getBigUint64(Number(at), t
 const told = (end, count, bytes) =>
   [end, count, crypto.createHash("sha256").update(bytes).digest("hex"), Buffer.from(bytes.subarray(0, SHOWN)).toString("latin1")];
 
-// Room for a text, which is filled before, and for its count.
-function roomOf(length) {
-  const room = put(of, new Uint8Array(length).fill(FILLED)), count = put(of, new Uint8Array(POINTER_BYTES));
-  const read = end => told(end, Number(numberAt(count.at)), new Uint8Array(of.memory.buffer, Number(room.at), length).slice());
-  return { words: [room.at, room.length, count.at], read, owned: [room.at, count.at] };
-}
-
 // An answer that holds nothing yet.
 function answerOf() {
   const answer = put(of, new Uint8Array(POINTER_BYTES));
   const read = end => {
     const held = numberAt(answer.at) ? heldBy(of, answer) : null;
+    const facts = held ? heldBy(of, answer, "sm_answer_facts", FACT_BYTES) : new Uint8Array();
     of.sm_answer_free(answer.at);
-    return told(end, held ? held.length : -1, held ?? new Uint8Array());
+    return told(end, held ? held.length : -1, joined([held ?? new Uint8Array(), facts]));
   };
   return { words: [answer.at], read, owned: [answer.at] };
 }
 
-// What a call takes, as words of the module: those of a text that is read, or of what is written.
+// Options of run ids, how strictly, and the form.
+function optionsOf(runs, strict, form) {
+  const ids = put(of, texts[runs]), options = new DataView(new ArrayBuffer(OPTIONS_BYTES));
+  options.setBigUint64(0, ids.at, true);
+  options.setBigUint64(8, ids.length / BigInt(ID_BYTES), true);
+  options.setUint32(16, strict, true);
+  options.setUint32(20, form, true);
+  const { at } = put(of, new Uint8Array(options.buffer));
+  return { words: [at], owned: [ids.at, at] };
+}
+
+// What a call takes, as words of the module: a number, options, an answer, or a text that is read.
 function taken([kind, it]) {
   if (kind === "number") return { words: [it], owned: [] };
-  if (kind === "room") return roomOf(it);
+  if (kind === "options") return optionsOf(...it);
   if (kind === "answer") return answerOf();
   const { at, length } = put(of, texts[it]);
-  return { words: [at, kind === "runs" ? length / BigInt(ID_BYTES) : length], owned: [at] };
+  return { words: [at, length], owned: [at] };
 }
 
 // What a call comes to. One that traps comes to what the trap says.

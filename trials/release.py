@@ -42,17 +42,20 @@ foreach(kind "" _shared)
   target_link_libraries(node${kind} PRIVATE vamuretu::sm_node${kind})
 endforeach()
 """
-# A program of ten lines over both libraries, and what CMake is told of it.
+# A short program over both libraries, and what CMake is told of it.
 BOTH = """#include <sm_embed.h>
 #include <sm_node.h>
 #include <stdio.h>
 int main(void) {
     uint8_t seed[SM_SEED_BYTES] = {0}, root[SM_ROOT_BYTES], room[100];
     sm_node keys = {0};
+    sm_answer answer = {0};
     size_t count;
-    if (sm_node_keys(&keys, seed, 1, root) != SM_OK || sm_audit(NULL, 0, room, sizeof room, &count) != SM_FAULT) return 1;
+    if (sm_node_keys(&keys, seed, 1, root) != SM_OK || sm_audit(NULL, 0, NULL, &answer) != SM_FAULT) return 1;
+    if (sm_answer_text(&answer, room, sizeof room, &count) != SM_OK) return 1;
     printf("%.*s\\n", (int)count, (const char *)room);
     sm_node_free(&keys);
+    sm_answer_free(&answer);
     return sm_version() != SM_VERSION_NUMBER || sm_node_version() != SM_VERSION_NUMBER;
 }
 """

@@ -12,7 +12,6 @@ has the reference answer.
 """
 import argparse
 import collections
-import ctypes
 import itertools
 import multiprocessing
 import os
@@ -31,6 +30,7 @@ from differs import day
 from draws import Draws
 from embed import ARCHIVE, EMBED, TOP, WARNINGS, do
 from exhibits import Keys, World, entries_of
+from exported import Native
 from paper import DIFFERENCES, Plan, all_runs, is_kept, keeps_conditions
 from programs import count_cores, run
 from tally import Tally
@@ -77,15 +77,15 @@ EVERY, LOGS = 147_456, 500
 PARTS = {2: 1, 3: 4, 4: 6, 5: 5, 6: 4}
 # Of so many bundles one is asked of the program too, and one of the reference. So many tuples are put together of one list's logs.
 TO_PROGRAM, TO_REFERENCE, PUT_TOGETHER = 20, 50, 100
-ROOM, SHOWN = 1 << 20, 5
+SHOWN = 5
 
 
 class Asked:
     """Whom to ask: the library for C, the program, or the reference."""
 
     def __init__(self, program, library):
-        self.program, self.runs, self.room = program, 0, ctypes.create_string_buffer(ROOM)
-        self.library = ctypes.CDLL(library) if library else None
+        self.program, self.runs = program, 0
+        self.library = Native(library) if library else None
 
     def answer(self, command, given, number):
         """The output of a command on this input."""
@@ -93,9 +93,9 @@ class Asked:
             return reference.answer([command], given).wrote.decode()
         told = None
         if self.library:
-            count, call = ctypes.c_size_t(0), getattr(self.library, f"sm_{command}")
-            call(given, ctypes.c_size_t(len(given)), self.room, ctypes.c_size_t(ROOM), ctypes.byref(count))
-            told = ctypes.string_at(self.room, count.value).decode() if count.value <= ROOM else f"{count.value} bytes"
+            nothing = ("options", (b"", 0, 0))
+            _, length, text = self.library.end(f"sm_{command}", ("input", given), nothing, ("answer", 0))
+            told = text[:length].decode()
         if told is None or number % TO_PROGRAM == 0:
             self.runs += 1
             by_program = run(self.program, [command], given).wrote.decode()

@@ -1,14 +1,19 @@
 // Judges files by the module. The page runs this in a worker.
 
 // What a call returns; UNASKED is the page's own, where it could not ask.
-const YES = 0, NO = 1, MISUSE = 2, FAULT = 3, MEMORY = 4, LENGTH = 5, OTHER = 7, UNASKED = 9;
+const YES = 0, NO = 1, MISUSE = 2, FAULT = 3, MEMORY = 4, OTHER = 7, UNASKED = 9;
 const LONGEST = 1073741824;
-// The form of an answer that is a JSON object.
-const JSON_FORM = 1;
-// The room for an answer that is handed over at once.
-const ROOM = 256;
-// The bytes of a run id, of a root, of a pointer, and of the mark of a file.
-const ID_BYTES = 32, ROOT_BYTES = 32, POINTER_BYTES = 8, MARK_BYTES = 4;
+// The forms of an answer.
+const TEXT_FORM = 0, JSON_FORM = 1;
+// The bytes of a run id, of a root, of a pointer, of options, of a fact, and of the mark of a file.
+const ID_BYTES = 32, ROOT_BYTES = 32, POINTER_BYTES = 8, OPTIONS_BYTES = 24, FACT_BYTES = 88, MARK_BYTES = 4;
+// The calls that take options.
+const WITH_OPTIONS = ["sm_audit", "sm_draw", "sm_accuse", "sm_evidence", "sm_decide", "sm_show"];
+// The kinds of facts that are read here, and the words of verdicts by their numbers.
+const FACT_RUN = 1, FACT_FINDING = 4, FACT_CONVICTION = 5, FACT_ACROSS = 6;
+const VERDICTS = [, "agreed", "explained", "no"];
+// The first fields of a fact, of four bytes each.
+const FACT_FIELDS = ["kind", "run", "general", "other", "number", "order"];
 // The findings that say why a log answers nothing.
 const AGAINST_LOG = /^N[467] /;
 const NOTHING = new Uint8Array();
@@ -43,49 +48,57 @@ function put(of, bytes) {
   return { at, length: BigInt(bytes.length) };
 }
 
-// The bytes that an answer holds; null if memory is refused.
-function heldBy(of, answer) {
+// What an answer holds, by a call that writes units of so many bytes; null if memory is refused.
+function heldBy(of, answer, call = "sm_answer_text", unit = 1) {
   const count = put(of, new Uint8Array(POINTER_BYTES)), none = put(of, NOTHING);
   if (!count || !none) return null;
-  of.sm_answer_text(answer.at, none.at, 0n, count.at);
-  const length = new DataView(of.memory.buffer).getBigUint64(Number(count.at), true);
+  of[call](answer.at, none.at, 0n, count.at);
+  const units = new DataView(of.memory.buffer).getBigUint64(Number(count.at), true), length = units * BigInt(unit);
   const room = of.room(length + 1n);
   if (!room) return null;
-  of.sm_answer_text(answer.at, room, length, count.at);
+  of[call](answer.at, room, units, count.at);
   const bytes = new Uint8Array(of.memory.buffer, Number(room), Number(length)).slice();
   for (const at of [count.at, none.at, room]) of.give_back(at);
   return bytes;
 }
 
-// What a call returns, and the bytes of its answer. The input is what `put` returns, and the runs are run ids one after
-// another. Numbers may come before the input.
-function ask(of, call, input, { runs = NOTHING, numbers = [] } = {}) {
-  const short = { end: MEMORY, bytes: NOTHING };
-  const ids = put(of, runs), answer = put(of, new Uint8Array(POINTER_BYTES));
-  if (!input || !ids || !answer) return short;
-  const first = /_(?:of|as)$/.test(call) ? [ids.at, BigInt(runs.length / ID_BYTES)] : [];
-  const end = of[call](...first, ...numbers, input.at, input.length, answer.at);
-  const bytes = end === MEMORY || end === MISUSE ? NOTHING : heldBy(of, answer);
-  of.sm_answer_free(answer.at);
-  for (const at of [ids.at, answer.at]) of.give_back(at);
-  return bytes ? { end, bytes } : short;
+// The facts that bytes spell, with the first fields of each.
+function factsIn(bytes) {
+  const view = new DataView(bytes.buffer), facts = [];
+  for (let at = 0; at < bytes.length; at += FACT_BYTES) {
+    facts.push(Object.fromEntries(FACT_FIELDS.map((name, place) => [name, view.getUint32(at + 4 * place, true)])));
+  }
+  return facts;
 }
 
-// What a call returns that takes inputs and room for its text, and the text.
-function handed(of, call, inputs, length = ROOM) {
-  const room = put(of, new Uint8Array(length)), count = put(of, new Uint8Array(POINTER_BYTES));
-  if (!inputs.every(it => it) || !room || !count) return { end: MEMORY, bytes: NOTHING };
-  const end = of[call](...inputs.flatMap(it => [it.at, it.length]), room.at, room.length, count.at);
-  const held = Number(new DataView(of.memory.buffer).getBigUint64(Number(count.at), true));
-  const bytes = new Uint8Array(of.memory.buffer, Number(room.at), Math.min(held, length)).slice();
-  for (const { at } of [room, count]) of.give_back(at);
-  return end === LENGTH ? handed(of, call, inputs, held) : { end, bytes };
+// Options in the memory of the module: run ids one after another, which are there already, and a form. Nothing is strict.
+function putOptions(of, ids, form) {
+  const options = new DataView(new ArrayBuffer(OPTIONS_BYTES));
+  options.setBigUint64(0, ids.at, true);
+  options.setBigUint64(8, ids.length / BigInt(ID_BYTES), true);
+  options.setUint32(20, form, true);
+  return put(of, new Uint8Array(options.buffer));
+}
+
+// What a call returns, the bytes of its answer, and its facts. An input is what `put` returns, the runs are run ids one after
+// another, and numbers may come before the inputs.
+function ask(of, call, inputs, { runs = NOTHING, form = TEXT_FORM, numbers = [] } = {}) {
+  const short = { end: MEMORY, bytes: NOTHING, facts: [] };
+  const ids = put(of, runs), options = ids && putOptions(of, ids, form), answer = put(of, new Uint8Array(POINTER_BYTES));
+  if (![...inputs, options, answer].every(it => it)) return short;
+  const asked = WITH_OPTIONS.includes(call) ? [options.at] : [];
+  const end = of[call](...numbers, ...inputs.flatMap(it => [it.at, it.length]), ...asked, answer.at);
+  const isHeld = end !== MEMORY && end !== MISUSE, bytes = isHeld ? heldBy(of, answer) : NOTHING;
+  const facts = isHeld ? heldBy(of, answer, "sm_answer_facts", FACT_BYTES) : NOTHING;
+  of.sm_answer_free(answer.at);
+  for (const { at } of [ids, options, answer]) of.give_back(at);
+  return bytes && facts ? { end, bytes, facts: factsIn(facts) } : short;
 }
 
 // What is told of a text by a call that takes a text: no bytes if memory is refused.
 function told(of, call, text) {
   const input = put(of, new TextEncoder().encode(text));
-  const { bytes } = ask(of, call, input);
+  const { bytes } = ask(of, call, [input]);
   if (input) of.give_back(input.at);
   return textOf(bytes);
 }
@@ -96,51 +109,64 @@ function kindOf(given) {
   return { SMB1: "bundle", SMB2: "bundle", SMC2: "campaign", SME1: "evidence", SME2: "evidence" }[mark] ?? "neither";
 }
 
-// The evidence against each general that a text convicts, weighed by the module as a file of evidence would be.
-function evidenceBy(of, input, runs, text) {
-  const convicted = linesOf(text).filter(it => it.startsWith("convicted ")).map(it => Number(it.split(" ")[1]));
+// The evidence against each general that is convicted, weighed by the module as a file of evidence would be.
+function evidenceBy(of, input, runs, facts) {
+  const convicted = facts.filter(it => it.kind === FACT_CONVICTION || it.kind === FACT_ACROSS).map(it => it.general);
   const generals = [...new Set(convicted)].sort((a, b) => a - b);
   return generals.map(general => {
-    const { end, bytes } = ask(of, "sm_accuse_of", input, { runs, numbers: [general] }), found = put(of, bytes);
-    return { general, bytes, holds: end === YES && ask(of, "sm_evidence_of", found).end === YES };
+    const { end, bytes } = ask(of, "sm_accuse", [input], { runs, numbers: [general] }), found = put(of, bytes);
+    return { general, bytes, holds: end === YES && ask(of, "sm_evidence", [found]).end === YES };
   });
+}
+
+// What facts say of each run: the verdict, how many findings there are, and who is convicted by what.
+function verdictsIn(facts) {
+  const runs = [];
+  const convict = (place, general, how) => { (runs[place].convicted[general] ??= []).push(how); };
+  for (const { kind, run, general, other, number, order } of facts) {
+    if (kind === FACT_RUN) runs.push({ verdict: VERDICTS[number], order, findings: 0, convicted: {} });
+    if (kind === FACT_FINDING) runs[run].findings += 1;
+    if (kind === FACT_CONVICTION) convict(run, general, `K${number}`);
+    if (kind === FACT_ACROSS) for (const place of [run, other]) convict(place, general, "K1 across runs");
+  }
+  return runs;
 }
 
 // The picture of a bundle or a campaign; null if memory is refused.
 function pictureOf(of, input, runs) {
-  const { end, bytes } = ask(of, "sm_draw_of", input, { runs });
+  const { end, bytes } = ask(of, "sm_draw", [input], { runs });
   return end === YES ? bytes : null;
 }
 
 // The answer on evidence, or on a file that is neither.
 function weighed(of, kind, input, runs) {
-  const { end, bytes } = ask(of, "sm_evidence_of", input, { runs });
+  const { end, bytes } = ask(of, "sm_evidence", [input], { runs });
   if (kind === "evidence") return { end, text: textOf(bytes) };
-  const other = ask(of, "sm_audit_of", input, { numbers: [0] });
+  const other = ask(of, "sm_audit", [input]);
   const isShort = end === MEMORY || other.end === MEMORY;
   return { end: isShort ? MEMORY : FAULT, text: `${textOf(other.bytes)}\n${textOf(bytes)}` };
 }
 
 // Of each run the pair of generals that no walk joins, if the verdict says that a walk is missing.
-function partedBy(of, input, runs, text) {
-  if (!/^N10 /m.test(text)) return [];
-  const { end, bytes } = ask(of, "sm_audit_as", input, { runs, numbers: [0, JSON_FORM] });
+function partedBy(of, input, runs, facts) {
+  if (!facts.some(it => it.kind === FACT_FINDING && it.number === 10)) return [];
+  const { end, bytes } = ask(of, "sm_audit", [input], { runs, form: JSON_FORM });
   const said = end > NO ? {} : JSON.parse(textOf(bytes));
   return (said.runs ?? [said]).map(it => it.parted);
 }
 
 // The answer on a bundle or a campaign.
 function audited(of, input, runs) {
-  const { end, bytes } = ask(of, "sm_audit_of", input, { runs, numbers: [0] }), text = textOf(bytes);
+  const { end, bytes, facts } = ask(of, "sm_audit", [input], { runs }), text = textOf(bytes);
   if (end > NO) return { end, text };
-  const parted = partedBy(of, input, runs, text);
-  return { end, text, parted, evidence: evidenceBy(of, input, runs, text), picture: pictureOf(of, input, runs) };
+  const parted = partedBy(of, input, runs, facts), verdicts = verdictsIn(facts);
+  return { end, text, verdicts, parted, evidence: evidenceBy(of, input, runs, facts), picture: pictureOf(of, input, runs) };
 }
 
 // An answer with what the module says of the file that it is about: what is shown of the file, what evidence claims, and
 // the lines of the answer and those beside it with their words.
 function described(of, input, answer, beside = "") {
-  const { end, bytes } = ask(of, "sm_show", input), shown = answer.kind === "neither" ? "" : textOf(bytes);
+  const { end, bytes } = ask(of, "sm_show", [input]), shown = answer.kind === "neither" ? "" : textOf(bytes);
   if (end === MEMORY) return { kind: answer.kind, end, text: "", shown: "", words: "" };
   const about = /^kind (\d)/m.exec(shown);
   const claim = about ? told(of, "sm_explain", `K${about[1]}`).split("\n").slice(1).join(" ").trim() : "";
@@ -174,16 +200,16 @@ function bundleAround(evidence, log) {
 // What an audit finds against a log that answers nothing, though the evidence and the log have no fault.
 function foundAgainst(of, evidence, log) {
   const input = put(of, bundleAround(evidence, log));
-  const { bytes } = ask(of, "sm_audit_of", input, { numbers: [0] });
+  const { bytes } = ask(of, "sm_audit", [input]);
   return linesOf(textOf(bytes)).filter(it => AGAINST_LOG.test(it)).map(it => `${it}\n`).join("");
 }
 
 // All that the module says of evidence and of the log by which the accused answers the evidence.
 async function replied(module, evidence, log) {
-  const of = await freshModule(module), inputs = [put(of, evidence), put(of, log)];
-  const { end, bytes } = handed(of, "sm_refute", inputs), answer = { kind: "reply", end, text: textOf(bytes) };
+  const of = await freshModule(module), proof = put(of, evidence), kept = put(of, log);
+  const { end, bytes } = ask(of, "sm_refute", [proof, kept]), answer = { kind: "reply", end, text: textOf(bytes) };
   if (end === MEMORY) return answer;
-  return described(of, inputs[0], answer, end === NO ? foundAgainst(of, evidence, log) : "");
+  return described(of, proof, answer, end === NO ? foundAgainst(of, evidence, log) : "");
 }
 
 // The SHA-256 of bytes in hexadecimal digits; nothing where the browser computes none.

@@ -317,7 +317,7 @@ function partsOf(given, answer, described) {
 
 // Shows an answer above those before it, and returns its sentence.
 function show(given, told) {
-  const answer = { ...told, file: readShown(told.shown), verdicts: told.end > NO ? [] : readVerdict(told.text) };
+  const answer = { verdicts: [], ...told, file: readShown(told.shown) };
   const outcome = outcomeOf(answer), said = headline(outcome, answer), head = made("h2", "", titleOf(given));
   head.id = `answer${byId("answers").childElementCount}`;
   const it = made("article", LOOKS[outcome] ?? "none", head, made("p", "answer", said),

@@ -1,4 +1,4 @@
-// Reads what the proved code writes of a file: the text of `show`, the text of the verdict, and the text with words.
+// Reads what the proved code writes of a file for the eye: the text of `show`, and the text with words.
 
 // The lines that need words; of others nothing is said.
 const NEED_WORDS = /^(?:verdict|general|N\d|convicted|fault|evidence|forged|collision|no answer)/;
@@ -51,20 +51,4 @@ function readShown(shown) {
     }
   }
   return file;
-}
-
-// What the text of a verdict says of each run: the verdict, how many findings there are, and who is convicted by what.
-function readVerdict(text) {
-  const runs = [];
-  const convict = (place, general, how) => { (runs[place].convicted[general] ??= []).push(how); };
-  for (const line of linesOf(text)) {
-    const across = /^convicted (\d+) by (\S+) across (\d+) (\d+)$/.exec(line);
-    const alone = /^convicted (\d+) by (.*)$/.exec(line);
-    if (line.startsWith("run ")) runs.push({ verdict: "", order: null, findings: 0, convicted: {} });
-    else if (across) for (const place of [across[3], across[4]]) convict(Number(place), across[1], `${across[2]} across runs`);
-    else if (alone) convict(runs.length - 1, alone[1], alone[2]);
-    else if (/^N\d/.test(line)) runs.at(-1).findings += 1;
-    else if (line.startsWith("verdict ")) [runs.at(-1).verdict, runs.at(-1).order] = line.split(" ").slice(1);
-  }
-  return runs;
 }

@@ -32,15 +32,15 @@ use Rattle.gen_audit.proofs.RunBundles.{world_is_bundle}
 use Rattle.gen_audit.proofs.Worlds.{world_is_accepted}
 use Rattle.gen_jobs.specs.Accepted.{IsSound, IsSoundIf, IsStrictlySound, RunsAreAccepted, RunsAreAcceptedBy, RunsAreJudged, RunsAreJudgedBy, RunsAreRead, alone}
 use Rattle.gen_json.specs.OriginData.{Origin}
-use Rattle.gen_jobs.specs.Asking.{AuditsAs, IsAuditedFrom, counts_as_no, has_few, have_few, shared_roots}
-use Rattle.gen_jobs.specs.Audit.{Audits, is_no}
-use Rattle.gen_jobs.specs.Holding.{IsHeldAs}
+use Rattle.gen_judging.specs.Asking.{AuditsAs, IsAuditedFrom, counts_as_no, has_few, have_few, shared_roots}
+use Rattle.gen_judging.specs.Audit.{Audits, is_no}
+use Rattle.gen_judging.specs.Holding.{IsHeldAs}
 use Rattle.gen_jobs.specs.Judging.{JudgesRun}
-use Rattle.gen_jobs.specs.Origins.{nothing_asked}
+use Rattle.gen_judging.specs.Origins.{nothing_asked}
 use Rattle.gen_asked.specs.declared.asked.Asked.{Asked}
 use Rattle.gen_asked.specs.declared.faulty.Faulty.{Faulty}
 use Rattle.gen_asked.specs.declared.faulty.Faulty.TheVariants.{Listed, These}
-use Rattle.gen_jobs.specs.Run.{IsRunAnswer}
+use Rattle.gen_making.specs.Run.{IsRunAnswer}
 
 -- the bytes of what is shown stand in the bundle's
 pub shown_bytes : (b : Bundle) (x : LogBytes) (v : ℕ) → Contains b.exhibits x → Contains x.bytes v → Contains (bundle_spelling b) v

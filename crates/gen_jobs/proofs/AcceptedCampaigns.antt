@@ -31,10 +31,10 @@ use Rattle.gen_campaign.specs.CampaignText.{HasSlot, MayPrecede, SpellsTexts}
 use Rattle.gen_jobs.specs.Accepted.{IsSound, IsSoundIf}
 use Rattle.gen_jobs.specs.AcceptedCampaigns.{CampaignsAreAccepted, CampaignsAreAcceptedBy, CampaignsAreRead, together}
 use Rattle.gen_plan.specs.EqualRoots.{equal_roots}
-use Rattle.gen_jobs.specs.Asking.{AuditsAs, has_few, have_few, shared_roots}
-use Rattle.gen_jobs.specs.Campaigning.{IsCampaignRun}
-use Rattle.gen_jobs.specs.Origins.{nothing_asked}
-use Rattle.gen_jobs.specs.Run.{IsOfRun}
+use Rattle.gen_judging.specs.Asking.{AuditsAs, has_few, have_few, shared_roots}
+use Rattle.gen_making.specs.Campaigning.{IsCampaignRun}
+use Rattle.gen_judging.specs.Origins.{nothing_asked}
+use Rattle.gen_making.specs.Run.{IsOfRun}
 use Rattle.gen_jobs.proofs.Accepted.{counts_not, few_scripted, held_shown, is_acceptable, not_strictly, shown_bytes}
 
 -- ---- the scenarios of a campaign

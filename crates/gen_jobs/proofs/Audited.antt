@@ -5,7 +5,7 @@ use Rattle.gen_audit.specs.Headline.{Headline, IsYes}
 use Rattle.gen_audit.specs.Supported.{IsSupported}
 use Rattle.gen_audit.specs.declared.verdicts.Verdict.{Verdict}
 use Rattle.gen_audit.specs.declared.verdicts.Verdict.TheVariants.{Agreed, Explained, No}
-use Rattle.gen_jobs.specs.Audit.{is_no}
+use Rattle.gen_judging.specs.Audit.{is_no}
 
 yes_is_no_no : (v : Verdict) → (is_no v ≡ false) ↔ IsYes v
 yes_is_no_no (Agreed order) = ((λ e. tt), (λ yes_it. refl))

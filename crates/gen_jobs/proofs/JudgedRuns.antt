@@ -1,18 +1,22 @@
 -- The judgement on the bundle of a scenario's run, as the job judge writes it.
-use Rattle.std.proofs.Common.{◌≡◌, ◌↔◌, ℕ, Bool, false, List, sym, subst}
+use Rattle.std.proofs.Common.{◌≡◌, ◌↔◌, ◌∙◌, ℕ, Bool, false, List, ap, map, sym, subst}
 use Rattle.std.specs.Prelude.{Option}
 use Rattle.gen_convict.specs.Convictions.{AreConvictions, ConvictsWhereHeld}
-use Rattle.gen_convict.specs.Evidence.{Accusation}
+use Rattle.gen_convict.specs.Evidence.{Accusation, told_of}
 use Rattle.gen_scenario.specs.Scenario.{Scenario, IsScenario, scripted}
 use Rattle.gen_log.specs.Fields.{AreBelow}
+use Rattle.gen_audit.specs.Bundle.{Bundle}
 use Rattle.gen_audit.specs.BundleParts.{AreListedWalks}
 use Rattle.gen_audit.specs.Headline.{Headline}
 use Rattle.gen_audit.specs.Supported.{IsSupported}
 use Rattle.gen_audit.specs.Verdict.{IsVerdict}
 use Rattle.gen_audit.specs.WorldBundle.{AreWalksOfRun, HasWalks, bundle_of}
+use Rattle.gen_audit.specs.declared.verdicts.Judgement.{Judgement}
 use Rattle.gen_audit.specs.declared.verdicts.Verdict.{Verdict}
+use Rattle.gen_campaign.specs.Judged.{IsJudged}
+use Rattle.gen_making.specs.Run.{IsOfRun}
 use Rattle.gen_audit.proofs.RunBundles.{are_listed, are_members}
-use Rattle.gen_jobs.specs.Audit.{is_no, judgement_text}
+use Rattle.gen_judging.specs.Audit.{is_no, judgement_text}
 use Rattle.gen_jobs.specs.Judging.{JudgesRun}
 use Rattle.gen_json.specs.OriginData.{Origin}
 use Rattle.gen_jobs.proofs.Audited.{supported}
@@ -40,6 +44,15 @@ judges origin s walks has v cs text negative judged headline convicted held text
         supported = is;
       };
     }
+
+-- so does the judgement on the bundle of the run, with its text
+pub judged_of : (origin : Option Origin) (s : Scenario) (b : Bundle) (j : Judgement) (text : List ℕ) (negative : Bool) → IsOfRun s b → IsJudged b j
+    → text ≡ judgement_text origin b j.verdict (map told_of j.convictions.items) → negative ≡ is_no j.verdict → JudgesRun origin s text negative
+judged_of origin s b j text negative run judged text_is negative_is =
+    let own : IsJudged (bundle_of s run.0) j = subst (λ (x : Bundle). IsJudged x j) run.2 judged in
+    judges origin s run.0 run.1 j.verdict (map told_of j.convictions.items) text negative own.verdict own.headline own.convictions own.held
+    (text_is ∙ ap (λ (x : Bundle). judgement_text origin x j.verdict (map told_of j.convictions.items)) run.2)
+    negative_is
 
 -- those who have scripts, and the walks of a run, can stand in a bundle
 pub scripted_below : (s : Scenario) → IsScenario s → AreBelow s.net.generals (scripted s.scripts)

@@ -1,16 +1,5 @@
 pub mod Accepted
 pub mod AcceptedCampaigns
-pub mod Accused
-pub mod AccusedRuns
-pub mod AskedFaults
 pub mod Audited
-pub mod Bundling
-pub mod Delivering
-pub mod Drawn
-pub mod Held
 pub mod JudgedRuns
-pub mod Known
-pub mod Reading
-pub mod RunsOf
-pub mod Shown
 pub mod Unwritten

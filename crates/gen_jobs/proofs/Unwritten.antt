@@ -6,7 +6,7 @@ use Rattle.gen_jobs.specs.Jobs.{JobFails}
 use Rattle.gen_jobs.specs.Planning.{IsPlanFaultAs, source_of}
 use Rattle.gen_asked.specs.declared.jobs.Job.{Job}
 use Rattle.gen_asked.specs.declared.jobs.Job.TheVariants as jobs
-use Rattle.gen_jobs.specs.declared.ends.JobFault.TheVariants as faults
+use Rattle.gen_ends.specs.declared.ends.JobFault.TheVariants as faults
 use Rattle.gen_jobs.specs.declared.planning.PlanSource.{PlanSource}
 use Rattle.gen_jobs.specs.declared.planning.PlanSource.TheVariants.{OfShown, OfHeader, OfText}
 

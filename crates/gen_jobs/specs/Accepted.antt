@@ -13,9 +13,10 @@ use Rattle.gen_campaign.specs.Campaign.{CampaignBundle}
 use Rattle.gen_campaign.specs.CampaignReading.{whole_campaign}
 use Rattle.gen_audit.specs.WorldBundle.{bundle_of}
 use Rattle.gen_json.specs.OriginData.{Origin}
-use Rattle.gen_jobs.specs.Asking.{IsAuditedBy, IsAuditedFrom, IsJudgedFrom}
-use Rattle.gen_jobs.specs.Origins.{nothing_asked}
-use Rattle.gen_jobs.specs.Run.{IsRunAnswer}
+use Rattle.gen_judging.specs.Asking.{IsAuditedBy, IsAuditedFrom}
+use Rattle.gen_jobs.specs.Judging.{IsJudgedFrom}
+use Rattle.gen_judging.specs.Origins.{nothing_asked}
+use Rattle.gen_making.specs.Run.{IsRunAnswer}
 use Rattle.gen_asked.specs.declared.asked.Asked.{Asked}
 use Rattle.gen_asked.specs.declared.faulty.Faulty.TheVariants.{Listed}
 use Rattle.gen_asked.specs.declared.forms.Form.TheVariants.{Text}

@@ -6,9 +6,9 @@ use Rattle.gen_campaign.specs.Campaign.{CampaignBundle}
 use Rattle.gen_campaign.specs.CampaignReading.{whole_campaign}
 use Rattle.gen_jobs.specs.Accepted.{IsSound, IsSoundIf}
 use Rattle.gen_json.specs.OriginData.{Origin}
-use Rattle.gen_jobs.specs.Asking.{IsAuditedBy, IsAuditedFrom}
-use Rattle.gen_jobs.specs.Campaigning.{IsCampaignRun}
-use Rattle.gen_jobs.specs.Origins.{nothing_asked}
+use Rattle.gen_judging.specs.Asking.{IsAuditedBy, IsAuditedFrom}
+use Rattle.gen_making.specs.Campaigning.{IsCampaignRun}
+use Rattle.gen_judging.specs.Origins.{nothing_asked}
 use Rattle.gen_asked.specs.declared.asked.Asked.{Asked}
 use Rattle.gen_asked.specs.declared.faulty.Faulty.TheVariants.{Listed}
 use Rattle.gen_asked.specs.declared.forms.Form.TheVariants.{Text}

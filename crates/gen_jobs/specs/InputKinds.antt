@@ -4,9 +4,9 @@ use Rattle.std.specs.Str.{bytes_eq}
 use Rattle.serde_json.specs.Data.{Data}
 use Rattle.gen_json.specs.FailureData.{failure_data}
 use Rattle.gen_file.specs.Kinds.{begins_header}
-use Rattle.gen_jobs.specs.Ends.{fault_status}
-use Rattle.gen_jobs.specs.FaultLines.{job_fault_line}
-use Rattle.gen_jobs.specs.declared.ends.JobFault.{JobFault}
+use Rattle.gen_ends.specs.Ends.{fault_status}
+use Rattle.gen_ends.specs.FaultLines.{job_fault_line}
+use Rattle.gen_ends.specs.declared.ends.JobFault.{JobFault}
 use Rattle.gen_jobs.specs.declared.input_kinds.InputKind.{InputKind}
 use Rattle.gen_jobs.specs.declared.input_kinds.InputKind.TheVariants as kinds
 

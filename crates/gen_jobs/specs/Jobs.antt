@@ -1,15 +1,16 @@
 -- The jobs, and what each makes of its input.
 use Rattle.std.specs.Prelude.{ℕ, Bool, List, Option}
-use Rattle.gen_jobs.specs.Asking.{IsAccusedOf, IsAuditedBy, IsCheckedIn, IsDrawnBy, IsEvidenceFaultOf, IsHeldFault, IsJudgedAs, IsShowFault}
-use Rattle.gen_jobs.specs.Audit.{ByWorkers}
-use Rattle.gen_jobs.specs.Campaigning.{IsCampaignFault, IsCampaignRun}
-use Rattle.gen_jobs.specs.Decide.{IsDecidedIn, IsDecideFault}
+use Rattle.gen_judging.specs.Asking.{IsAccusedOf, IsAuditedBy, IsCheckedIn, IsDrawnBy, IsEvidenceFaultOf, IsHeldFault, IsShowFault}
+use Rattle.gen_jobs.specs.Judging.{IsJudgedAs}
+use Rattle.gen_judging.specs.Audit.{ByWorkers}
+use Rattle.gen_making.specs.Campaigning.{IsCampaignFault, IsCampaignRun}
+use Rattle.gen_telling.specs.Decide.{IsDecidedIn, IsDecideFault}
 use Rattle.gen_jobs.specs.Planning.{IsPlan, IsPlanFault}
-use Rattle.gen_jobs.specs.Preparing.{IsHeaderFault, IsHeaderOf, IsRoot, IsRootFault}
-use Rattle.gen_jobs.specs.Run.{IsRunAnswer, IsRunFault}
-use Rattle.gen_jobs.specs.Showing.{IsShownFault, IsShownIn}
-use Rattle.gen_jobs.specs.Telling.{IsMemory, IsTold}
-use Rattle.gen_jobs.specs.declared.ends.JobFault.{JobFault}
+use Rattle.gen_making.specs.Preparing.{IsHeaderFault, IsHeaderOf, IsRoot, IsRootFault}
+use Rattle.gen_making.specs.Run.{IsRunAnswer, IsRunFault}
+use Rattle.gen_telling.specs.Showing.{IsShownFault, IsShownIn}
+use Rattle.gen_telling.specs.Telling.{IsMemory, IsTold}
+use Rattle.gen_ends.specs.declared.ends.JobFault.{JobFault}
 use Rattle.gen_asked.specs.declared.jobs.Job.{Job}
 use Rattle.gen_asked.specs.declared.jobs.Job.TheVariants as jobs
 

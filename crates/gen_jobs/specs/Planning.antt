@@ -21,8 +21,8 @@ use Rattle.gen_prepare.specs.declared.header_fault.HeaderTextFault.{HeaderTextFa
 use Rattle.gen_prepare.specs.declared.header_fault.HeaderTextFault.TheVariants.{Text, EqualRoots}
 use Rattle.gen_jobs.specs.InputKinds.{kind_of}
 use Rattle.gen_jobs.specs.PlanText.{plan_text}
-use Rattle.gen_jobs.specs.declared.ends.JobFault.{JobFault}
-use Rattle.gen_jobs.specs.declared.ends.JobFault.TheVariants as faults
+use Rattle.gen_ends.specs.declared.ends.JobFault.{JobFault}
+use Rattle.gen_ends.specs.declared.ends.JobFault.TheVariants as faults
 use Rattle.gen_jobs.specs.declared.input_kinds.InputKind.{InputKind}
 use Rattle.gen_jobs.specs.declared.input_kinds.InputKind.TheVariants as kinds
 use Rattle.gen_jobs.specs.declared.planning.PlanSource.{PlanSource}

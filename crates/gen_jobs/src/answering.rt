@@ -3,16 +3,13 @@ ghost use Rattle.std.specs.Prelude.{◌≡◌, IfErr, IfOk, option_map};
 ghost use Rattle.gen_asked.specs.Ranges.{IsInRange};
 ghost use Rattle.gen_jobs.specs.Jobs.{JobAnswers, JobFails};
 
-use crate::accusing::accuse;
-use crate::auditing::audit;
-use crate::campaigning::campaign;
-use crate::drawing::draw;
-use crate::ends::{JobFault, Output};
-use crate::in_place::answer_in_place;
+use crate::in_place::output_in_place;
 use crate::judging::judge;
-use crate::running::run;
 use gen_asked::Job;
 use gen_audit::WorkerCount;
+use gen_ends::{JobFault, Output};
+use gen_judging::{accuse, audit, draw};
+use gen_making::{campaign, run};
 use std::alloc::Global;
 use std::sync::Wait;
 use std::thread::Threads;
@@ -58,6 +55,9 @@ pub fn answer<T: Threads + Wait + Sync>(
         Job::Accuse { general, asked } => {
             accuse(rt, alloc, WorkerCount::one(), asked, general, input)
         }
-        _ => answer_in_place(alloc, job, name, &input),
+        _ => {
+            let mut facts = Vec::new(alloc);
+            output_in_place(alloc, job, name, &input, &mut facts)
+        }
     }
 }

@@ -3,9 +3,8 @@ ghost use Rattle.std.specs.Prelude.{◌≡◌, IfOk, option_map};
 ghost use Rattle.gen_json.specs.Line.{json_line};
 ghost use Rattle.gen_jobs.specs.InputKinds.{fault_data, kind_words};
 
-use crate::ends::JobFault;
-use crate::fault_lines::job_fault_line;
 use crate::input_kinds::InputKind;
+use gen_ends::{JobFault, job_fault_line};
 use gen_json::print_failure_json;
 use std::alloc::{AllocError, Global};
 

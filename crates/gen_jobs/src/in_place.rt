@@ -1,117 +1,57 @@
 //! Jobs in the caller's thread: no thread is started, and none is waited for.
 //!
 //! They serve callers that have no threads to give, such as a library for C.
-ghost use Rattle.std.specs.Prelude.{◌≡◌, IfErr, IfOk, IfSome, option_map};
+ghost use Rattle.std.specs.Prelude.{◌≡◌, [], IfErr, IfOk, IfSome, OnOk, option_map};
 ghost use Rattle.gen_asked.specs.Ranges.{IsInRange};
-ghost use Rattle.gen_jobs.specs.Answering.{Answers};
-ghost use Rattle.gen_jobs.specs.Asking.{IsAccusedOf, IsAuditedBy, IsDrawnBy, IsHeldFault, IsShowFault};
-ghost use Rattle.gen_jobs.specs.Audit.{ByWorkers};
-ghost use Rattle.gen_jobs.specs.Ends.{IsTaken, KeepsUntilWhole};
+ghost use Rattle.gen_ends.specs.Answering.{Answers};
+ghost use Rattle.gen_ends.specs.Ends.{IsTaken, KeepsUntilWhole};
+ghost use Rattle.gen_jobs.specs.Facts.{JobFacts};
 ghost use Rattle.gen_jobs.specs.Jobs.{JobAnswers, JobFails};
 
-use crate::accusing::evidence_by;
-use crate::auditing::output_by;
-use crate::checking::evidence;
-use crate::counting::{counted, have_few, shared_roots};
-use crate::deciding::decide;
-use crate::drawing::picture_by;
-use crate::ends::{JobEnd, JobFault, Output};
-use crate::holding::held_as;
-use crate::origins::origin_in;
 use crate::planning::plan;
-use crate::preparing::{header, root};
-use crate::run_ids::check_runs;
-use crate::showing::show;
-use crate::telling::tell;
-use crate::transfer::{deliver, read_all};
-use gen_asked::{Asked, AskedRuns, Form, Job};
-use gen_campaign::{audit_campaign_in_place, read_campaign};
-use gen_types::GeneralNo;
+use gen_asked::Job;
+use gen_ends::{JobEnd, JobFault, Output, deliver, read_all};
+use gen_facts::Fact;
+use gen_judging::{accuse_in_place, audit_in_place, draw_in_place, evidence};
+use gen_making::{header, root};
+use gen_telling::{decide, show, tell};
 use std::alloc::Global;
 use std::io::{Read, Write};
 
-/// Returns what `audit` returns for the input, but works in the caller's thread.
-#[tactic(auto, using(crate::proofs::AskedFaults::held_faults))]
-fn audit_in_place(
-    alloc: Global,
-    asked: &Asked,
-    form: Form,
-    strict: bool,
-    name: Option<&str>,
-    input: &[u8],
-) -> Result<Output, JobFault>
-    ensures answer { IfOk result (λ o. IsAuditedBy asked.now form strict (option_map (λ t. t.now) name.entry)
-        input.now o.text.items o.negative) }
-    ensures fault { IfErr result (ByWorkers 1 (IsHeldFault asked.now input.now)) }
-{
-    let origin = origin_in(alloc, form, name, asked, input)?;
-    let campaign = read_campaign(alloc, input)?;
-    check_runs(alloc, asked.runs, campaign.bundles())?;
-    let held = held_as(alloc, asked.faulty, campaign)?;
-    let verdict = audit_campaign_in_place(alloc, &held)?;
-    let output = output_by(alloc, &origin, &held, &verdict)?;
-    let few = have_few(held.bundles());
-    let shared = shared_roots(alloc, held.bundles())?;
-    Ok(counted(alloc, output, &origin, strict, few, &shared)?)
+/// The answer of a job, and what it found as rows of numbers.
+#[derive(Debug, Drop)]
+pub struct Answered {
+    /// The text, and whether it says no.
+    pub output: Output,
+    /// What was judged or decided; nothing if the job neither judges nor decides.
+    pub facts: Vec<Fact>,
 }
 
-/// Returns what `draw` returns for the input, but works in the caller's thread.
-#[tactic(auto, using(crate::proofs::AskedFaults::held_faults))]
-fn draw_in_place(alloc: Global, asked: &Asked, input: &[u8]) -> Result<Output, JobFault>
-    ensures answer { IfOk result (λ o. IsDrawnBy asked.now input.now o.text.items o.negative) }
-    ensures fault { IfErr result (ByWorkers 1 (IsHeldFault asked.now input.now)) }
-{
-    let campaign = read_campaign(alloc, input)?;
-    check_runs(alloc, asked.runs, campaign.bundles())?;
-    let held = held_as(alloc, asked.faulty, campaign)?;
-    let verdict = audit_campaign_in_place(alloc, &held)?;
-    Ok(picture_by(alloc, &held, &verdict)?)
-}
-
-/// Returns what `accuse` returns for the input, but works in the caller's thread.
-#[tactic(auto, using(crate::proofs::AskedFaults::show_faults))]
-fn accuse_in_place(
-    alloc: Global,
-    asked: AskedRuns,
-    general: GeneralNo,
-    input: &[u8],
-) -> Result<Output, JobFault>
-    ensures answer { IfOk result (λ o. IsAccusedOf asked general input.now o.text.items o.negative) }
-    ensures fault { IfErr result (ByWorkers 1 (IsShowFault asked input.now)) }
-{
-    let campaign = read_campaign(alloc, input)?;
-    check_runs(alloc, asked, campaign.bundles())?;
-    let verdict = audit_campaign_in_place(alloc, &campaign)?;
-    Ok(evidence_by(alloc, general, &campaign, &verdict)?)
-}
-
-/// Returns the answer of a job to an input in the caller's thread, as `answer` does by threads. The jobs `run`, `judge`
-/// and `campaign` have none, for they need threads. A verdict as JSON tells the input's name, if it has one.
-///
-/// # Errors
-///
-/// The first fault of an input that the job doesn't take; `Memory` if memory is refused; `Thread` for `run`, `judge` and
-/// `campaign`, and else never by one worker.
-pub fn answer_in_place(
+/// Returns the answer of a job to an input, as `answer_in_place` does. `facts`, which is empty before, then holds what the
+/// job found.
+pub(crate) fn output_in_place(
     alloc: Global,
     job: Job,
     name: Option<&str>,
     input: &[u8],
+    facts: &mut Vec<Fact>,
 ) -> Result<Output, JobFault>
-    requires { IsInRange job }
+    requires range { IsInRange job }
+    requires empty { facts.old.items ≡ [] }
     ensures answer { IfOk result (λ o. JobAnswers job (option_map (λ t. t.now) name.entry) input.now
         o.text.items o.negative) }
     ensures fault { IfErr result (JobFails job input.now) }
+    ensures facts { OnOk result (JobFacts job input.now facts.new.items) }
 {
     match job {
-        Job::Decide { form } => decide(alloc, form, input),
+        Job::Decide { form } => decide(alloc, form, input, facts),
         Job::Run { .. } | Job::Judge { .. } | Job::Campaign { .. } => Err(JobFault::Thread),
         Job::Audit {
             workers: _,
             asked,
             strict,
             form,
-        } => audit_in_place(alloc, &asked, form, strict, name, input),
+        } => audit_in_place(alloc, &asked, form, strict, name, input, facts),
         Job::Draw { workers: _, asked } => draw_in_place(alloc, &asked, input),
         Job::Accuse { general, asked } => accuse_in_place(alloc, asked, general, input),
         Job::Evidence { asked, form } => evidence(alloc, form, asked, input),
@@ -123,8 +63,37 @@ pub fn answer_in_place(
     }
 }
 
+/// Returns the answer of a job to an input in the caller's thread, as `answer` does by threads, and what the job found as
+/// facts. The jobs `run`, `judge` and `campaign` have none, for they need threads. A verdict as JSON tells the input's
+/// name, if it has one.
+///
+/// `audit` tells the facts of the judgement on each run, of the convictions across two runs, and of the pairs of generals
+/// that have the same root. `decide` tells the facts of the decisions. Every other job tells none. The form and what
+/// counts as a no change no fact.
+///
+/// # Errors
+///
+/// The first fault of an input that the job doesn't take; `Memory` if memory is refused; `Thread` for `run`, `judge` and
+/// `campaign`, and else never by one worker.
+pub fn answer_in_place(
+    alloc: Global,
+    job: Job,
+    name: Option<&str>,
+    input: &[u8],
+) -> Result<Answered, JobFault>
+    requires { IsInRange job }
+    ensures answer { IfOk result (λ a. JobAnswers job (option_map (λ t. t.now) name.entry) input.now
+        a.output.text.items a.output.negative) }
+    ensures fault { IfErr result (JobFails job input.now) }
+    ensures facts { IfOk result (λ a. JobFacts job input.now a.facts.items) }
+{
+    let mut facts = Vec::new(alloc);
+    let output = output_in_place(alloc, job, name, input, &mut facts)?;
+    Ok(Answered { output, facts })
+}
+
 /// Does a job in the caller's thread: reads its input to its end, and writes the answer once it is whole.
-#[tactic(auto, using(crate::proofs::Delivering::output_engine))]
+#[tactic(auto, using(gen_ends::proofs::Delivering::output_engine))]
 pub(crate) fn engine_in_place<R: Read, W: Write>(
     alloc: Global,
     job: Job,
@@ -143,7 +112,13 @@ pub(crate) fn engine_in_place<R: Read, W: Write>(
     ensures late { KeepsUntilWhole (W.contents writer.old) (W.contents writer.new) result }
 {
     match read_all(alloc, reader) {
-        Ok(input) => deliver(writer, answer_in_place(alloc, job, name, &input)),
+        Ok(input) => {
+            let mut facts = Vec::new(alloc);
+            deliver(
+                writer,
+                output_in_place(alloc, job, name, &input, &mut facts),
+            )
+        }
         Err(fault) => JobEnd::Failed(fault),
     }
 }

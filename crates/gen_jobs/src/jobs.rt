@@ -1,20 +1,17 @@
 //! The choice of the engine by the job.
 ghost use Rattle.std.specs.Prelude.{IfSome, option_map};
-ghost use Rattle.gen_jobs.specs.Answering.{Answers};
-ghost use Rattle.gen_jobs.specs.Ends.{IsTaken, KeepsUntilWhole};
+ghost use Rattle.gen_ends.specs.Answering.{Answers};
+ghost use Rattle.gen_ends.specs.Ends.{IsTaken, KeepsUntilWhole};
 ghost use Rattle.gen_jobs.specs.Jobs.{JobAnswers, JobFails};
 ghost use Rattle.gen_asked.specs.Ranges.{IsInRange};
 
-use crate::accusing::accuse_engine;
-use crate::auditing::audit_engine;
-use crate::campaigning::campaign_engine;
-use crate::drawing::draw_engine;
-use crate::ends::JobEnd;
 use crate::in_place::engine_in_place;
 use crate::judging::judge_engine;
-use crate::running::run_engine;
 use gen_asked::Job;
 use gen_audit::WorkerCount;
+use gen_ends::JobEnd;
+use gen_judging::{accuse_engine, audit_engine, draw_engine};
+use gen_making::{campaign_engine, run_engine};
 use std::alloc::Global;
 use std::io::{Read, Write};
 use std::sync::Wait;

@@ -1,26 +1,71 @@
 //! The job `judge`: runs a scenario, and audits its logs meanwhile.
 ghost use Rattle.std.specs.Prelude.{◌<◌, IfOk, IfErr, IfSome, option_map};
-ghost use Rattle.gen_jobs.specs.Answering.{Answers};
-ghost use Rattle.gen_jobs.specs.Asking.{IsJudgedAs};
-ghost use Rattle.gen_jobs.specs.Ends.{IsTaken, KeepsUntilWhole};
-ghost use Rattle.gen_jobs.specs.Run.{IsRunFault};
+ghost use Rattle.gen_ends.specs.Answering.{Answers};
+ghost use Rattle.gen_jobs.specs.Judging.{IsJudgedAs, JudgesRunAs};
+ghost use Rattle.gen_ends.specs.Ends.{IsTaken, KeepsUntilWhole};
+ghost use Rattle.gen_making.specs.Run.{IsOfRun, IsRunFault};
+ghost use Rattle.gen_campaign.specs.Judged.{IsJudged};
 
-use crate::auditing::judgement_output;
-use crate::counting::{counted, has_few};
-use crate::ends::{JobEnd, JobFault, Output};
-use crate::gates::Open;
-use crate::origins::{nothing_asked, origin_in};
-use crate::running::seeded_scenario;
-use crate::transfer::{deliver, read_all};
-use gen_asked::Form;
-use gen_audit::WorkerCount;
+use gen_asked::{Asked, AskedRuns, Faulty, Form};
+use gen_audit::{AuditFault, Bundle, Judgement, WorkerCount};
+use gen_ends::{JobEnd, JobFault, Open, Output, deliver, read_all};
+use gen_json::Origin;
 use gen_judge::run_and_audit_bundle;
+use gen_judging::{counted, has_few, judgement_output, origin_in};
+use gen_making::seeded_scenario;
 use gen_plan::equal_roots;
 use gen_prepare::walks_between;
-use std::alloc::Global;
+use gen_scenario::Scenario;
+use std::alloc::{AllocError, Global};
 use std::io::{Read, Write};
 use std::sync::Wait;
 use std::thread::Threads;
+
+/// Returns the bundle of the run of a scenario, and the judgement on it. The generals that have scripts are held for
+/// faulty. The walks are the best ones between the other generals, or none if two of them have no short one.
+fn judged_run<T: Threads + Wait + Sync>(
+    rt: &T,
+    alloc: Global,
+    capacity: u8,
+    workers: WorkerCount,
+    scenario: &Scenario,
+) -> Result<(Bundle, Judgement), AuditFault>
+    requires { 0 < capacity }
+    ensures { IfOk result (λ made. IsOfRun scenario.now made.0 × IsJudged made.0 made.1) }
+{
+    let faulty = scenario.scripted();
+    let header = scenario.header();
+    let net = header.net();
+    let walks = walks_between(alloc, net, &net.rest(&faulty))?;
+    let capacity = usize::from(capacity);
+    let (bundle, judgement) = run_and_audit_bundle(
+        rt, alloc, scenario, capacity, &faulty, &walks, workers, &Open, &Open,
+    )?;
+    Ok((bundle, judgement))
+}
+
+/// Returns the judgement on the bundle of a scenario's run, and whether it counts as a no: as text, or as JSON with where
+/// the answer comes from.
+fn told_judgement(
+    alloc: Global,
+    origin: &Option<Origin>,
+    strict: bool,
+    scenario: &Scenario,
+    bundle: &Bundle,
+    judgement: &Judgement,
+) -> Result<Output, AllocError>
+    requires run { IsOfRun scenario.now bundle.now }
+    requires judged { IsJudged bundle.now judgement.now }
+    ensures { IfOk result (λ o. JudgesRunAs origin.now strict scenario.now o.text.items o.negative) }
+{
+    let output = judgement_output(alloc, origin, bundle, judgement)?;
+    let faulty = scenario.scripted();
+    let header = scenario.header();
+    let net = header.net();
+    let few = has_few(net, &faulty);
+    let shared = equal_roots(alloc, header)?;
+    Ok(counted(alloc, output, origin, strict, few, &shared)?)
+}
 
 /// Returns in this form the judgement on the run of the scenario that the input spells, and whether it counts as a no.
 /// What says no does. If it is asked strictly, so does a yes that says `explained`, and a yes if two generals have the
@@ -49,19 +94,14 @@ pub(crate) fn judge<T: Threads + Wait + Sync>(
     ensures fault { IfErr result (IsRunFault input.now) }
 {
     let scenario = seeded_scenario(rt, alloc, input)?;
-    let faulty = scenario.scripted();
-    let header = scenario.header();
-    let net = header.net();
-    let walks = walks_between(alloc, net, &net.rest(&faulty))?;
-    let capacity = usize::from(capacity);
-    let (bundle, judgement) = run_and_audit_bundle(
-        rt, alloc, &scenario, capacity, &faulty, &walks, workers, &Open, &Open,
-    )?;
-    let origin = origin_in(alloc, form, name, &nothing_asked(), input)?;
-    let output = judgement_output(alloc, &origin, &bundle, &judgement)?;
-    let few = has_few(net, &faulty);
-    let shared = equal_roots(alloc, header)?;
-    Ok(counted(alloc, output, &origin, strict, few, &shared)?)
+    let (bundle, judgement) = judged_run(rt, alloc, capacity, workers, &scenario)?;
+    let nothing = Asked {
+        runs: AskedRuns::Any,
+        faulty: Faulty::Listed,
+    };
+    let origin = origin_in(alloc, form, name, &nothing, input)?;
+    let output = told_judgement(alloc, &origin, strict, &scenario, &bundle, &judgement)?;
+    Ok(output)
 }
 
 /// Reads a scenario text with a seed to its end, runs it while this many workers audit the logs that are there, and
@@ -71,7 +111,7 @@ pub(crate) fn judge<T: Threads + Wait + Sync>(
 ///
 /// A fault of the input is looked for after the whole input was read, and nothing is written before the output is
 /// whole. If a read, a write, memory or a thread fails, the job ends with that fault.
-#[tactic(auto, using(crate::proofs::Delivering::output_engine))]
+#[tactic(auto, using(gen_ends::proofs::Delivering::output_engine))]
 pub fn judge_engine<T: Threads + Wait + Sync, R: Read, W: Write>(
     rt: &T,
     alloc: Global,

@@ -2,9 +2,9 @@
 ghost use Rattle.std.specs.Prelude.{◌≡◌, IfOk, option_map};
 ghost use Rattle.gen_file.specs.Kinds.{file_kind};
 ghost use Rattle.gen_jobs.specs.Naming.{ids_text};
-ghost use Rattle.gen_jobs.specs.Showing.{runs_as};
+ghost use Rattle.gen_show.specs.Runs.{runs_as};
 
-use crate::showing::file_runs;
+use gen_show::file_runs;
 use std::alloc::{AllocError, Global};
 
 /// Returns run ids in 64 hexadecimal digits each, with commas between them.

@@ -3,16 +3,15 @@ ghost use Rattle.std.specs.Prelude.{◌≡◌, ◌≤◌, IfErr, IfOk, Ok, Err};
 ghost use Rattle.gen_types.specs.Spelled.{counted};
 ghost use Rattle.gen_net.specs.HeaderReading.{header_at};
 ghost use Rattle.gen_net.specs.Version.{greatest_slot, slot_in};
-ghost use Rattle.gen_prepare.specs.HeaderTextReading.{header_given};
 ghost use Rattle.gen_campaign.specs.CampaignReading.{whole_campaign};
 ghost use Rattle.gen_jobs.specs.InputKinds.{kind_of};
-ghost use Rattle.gen_jobs.specs.Planning.{IsPlan, IsPlanFault, IsPlanFrom, IsPlanOf, IsShownFault, IsTextFault, alone_header, fails, first_header, shown_header, source_of};
+ghost use Rattle.gen_jobs.specs.Planning.{IsPlan, IsPlanFault, IsPlanFrom, IsPlanOf, IsShownFault, alone_header, fails, first_header, shown_header, source_of};
 
-use crate::ends::{JobFault, Output};
 use crate::input_kinds::{InputKind, input_kind};
 use crate::plan_lines::plan_text;
 use gen_audit::BundleFault;
 use gen_campaign::{CampaignFault, read_campaign};
+use gen_ends::{JobFault, Output};
 use gen_net::{Header, Version, read_header};
 use gen_plan::{PlanResult, plan_of, sizes_of};
 use gen_prepare::read_header_text;
@@ -101,17 +100,6 @@ fn plan_header(alloc: Global, input: &[u8]) -> Result<Output, JobFault>
     }
 }
 
-/// Returns the text on the plan of the header of this version that a text gives.
-fn plan_given(alloc: Global, version: Version, input: &[u8]) -> Result<Output, JobFault>
-    requires { slot_in version ≤ greatest_slot }
-    ensures answer { IfOk result (λ o.
-        IsPlanFrom (header_given version input.now) o.text.items o.negative) }
-    ensures fault { IfErr result (IsTextFault (header_given version input.now)) }
-{
-    let header = read_header_text(alloc, version, input)?;
-    Ok(plan_output(alloc, &header)?)
-}
-
 /// Returns the text on the plan of a header: whether its network withstands the faulty generals that its run is planned
 /// for, and how long the run can get. The output says no if it does not.
 ///
@@ -131,6 +119,9 @@ pub(crate) fn plan(alloc: Global, version: Version, input: &[u8]) -> Result<Outp
     match source_of(input) {
         PlanSource::OfShown => plan_shown(alloc, input),
         PlanSource::OfHeader => plan_header(alloc, input),
-        PlanSource::OfText => plan_given(alloc, version, input),
+        PlanSource::OfText => {
+            let header = read_header_text(alloc, version, input)?;
+            Ok(plan_output(alloc, &header)?)
+        }
     }
 }

@@ -1,17 +1,11 @@
-pub mod Held
 pub mod LineFeeds
 pub mod OneList
 pub mod OneValue
 pub mod Plain
-pub mod PlainCampaigns
 pub mod PlainDecisions
-pub mod PlainEntries
 pub mod PlainEvidence
 pub mod PlainLogs
 pub mod PlainOrigins
-pub mod PlainShown
 pub mod PlainVerdicts
 pub mod Ranges
-pub mod ShownLines
 pub mod ShownValues
-pub mod Told

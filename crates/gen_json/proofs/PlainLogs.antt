@@ -12,8 +12,7 @@ use Rattle.gen_log.specs.Writing.{LogBytes}
 use Rattle.gen_log.specs.declared.entries.Entry.{Entry}
 use Rattle.gen_log.specs.declared.entries.Entry.TheVariants.{Start, Sign, Send, Recv, Decide}
 use Rattle.gen_log.specs.declared.fault.LogFault.{LogFault}
-use Rattle.gen_json.specs.DecidedLogs.{decision_read, exhibit_decision, log_decision_data, logs_data}
-use Rattle.gen_json.specs.LogData.{decided_data, last_order, order_of}
+use Rattle.gen_json.specs.DecidedLogs.{decided_data, decision_read, exhibit_decision, last_order, log_decision_data, logs_data, order_of}
 
 order_plain : (e : Entry) → has_float (order_of e) ≡ false
 order_plain (Start general own) = refl
@@ -37,8 +36,11 @@ last_shallow : (e : Option Entry) → depth (last_order e) ≤ 0
 last_shallow None = omega arith
 last_shallow (Some e) = order_shallow e
 
+pub decided_plain : (entries : List Entry) → has_float (decided_data entries) ≡ false
+decided_plain entries = unfold decided_data in last_plain (slice_get entries (length entries - 1))
+
 decision_plain : (general : ℕ) (log : RunLog) → has_float (log_decision_data general log) ≡ false
-decision_plain general log = unfold decided_data in rw (last_plain (slice_get log.entries (length log.entries - 1))) refl
+decision_plain general log = rw (decided_plain log.entries) refl
 
 decided_shallow : (entries : List Entry) → depth (decided_data entries) ≤ 0
 decided_shallow entries = unfold decided_data in last_shallow (slice_get entries (length entries - 1))

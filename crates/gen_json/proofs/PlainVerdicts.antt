@@ -14,7 +14,8 @@ use Rattle.gen_audit.specs.declared.verdicts.Verdict.{Verdict}
 use Rattle.gen_audit.specs.declared.verdicts.Verdict.TheVariants.{Agreed, Explained, No}
 use Rattle.gen_audit.specs.Verdict.{findings_in}
 use Rattle.gen_json.specs.FindingData.{finding_data}
-use Rattle.gen_json.specs.StatusData.{status_data, status_of}
+use Rattle.gen_facts.specs.Statuses.{status_of}
+use Rattle.gen_json.specs.StatusData.{status_data}
 use Rattle.gen_json.specs.DecisionData.{decided_data}
 use Rattle.gen_json.specs.ConvictionData.{conviction_data}
 use Rattle.gen_json.specs.JsonData.{pair_data}

@@ -1,15 +1,33 @@
 -- What the shown logs say was decided, as JSON.
-use Rattle.std.specs.Prelude.{ℕ, List, [], ◌∷◌, codes, Result, Ok, Err}
+use Rattle.std.specs.Prelude.{ℕ, ◌-◌, List, [], ◌∷◌, codes, length, slice_get, Option, Some, None, Result, Ok, Err}
 use Rattle.std.specs.List.{flat_map}
-use Rattle.serde_json.specs.Data.{Data, array}
+use Rattle.serde_json.specs.Data.{Data, array, null}
 use Rattle.serde_json.specs.View.{items_of}
 use Rattle.gen_net.specs.Header.{RunHeader}
+use Rattle.gen_log.specs.declared.entries.Entry.{Entry}
+use Rattle.gen_log.specs.declared.entries.Entry.TheVariants.{Start, Sign, Send, Recv, Decide}
 use Rattle.gen_log.specs.Log.{RunLog}
 use Rattle.gen_log.specs.LogReading.{log_of}
 use Rattle.gen_log.specs.Writing.{LogBytes}
 use Rattle.gen_log.specs.declared.fault.LogFault.{LogFault}
 use Rattle.gen_json.specs.JsonData.{fields, whole}
-use Rattle.gen_json.specs.LogData.{decided_data}
+
+-- the order of a DECIDE; null of another entry
+abbrev pub order_of : Entry → Data
+order_of (Start general own) = null
+order_of (Sign order path signature) = null
+order_of (Send to order path) = null
+order_of (Recv from chain) = null
+order_of (Decide orders order) = whole order
+
+-- the order of the entry at the end
+abbrev pub last_order : Option Entry → Data
+last_order None = null
+last_order (Some e) = order_of e
+
+-- the order of the DECIDE with which a log ends
+unfoldable pub decided_data : List Entry → Data
+decided_data entries = last_order (slice_get entries (length entries - 1))
 
 -- a general, and the order of the DECIDE with which the log that is shown as this general's ends; null if it
 -- ends with none

@@ -5,8 +5,6 @@ use Rattle.serde_json.specs.Data.{Num, unsigned, negative, float, Data, null, bo
 use Rattle.serde_json.specs.Data.{Items, no_items, item, Members, no_members, member}
 use Rattle.serde_json.specs.Written.{compact_text, has_float}
 use Rattle.gen_json.specs.Line.{json_line}
-use Rattle.gen_file.specs.declared.kinds.FileKind.{FileKind}
-use Rattle.gen_json.specs.ShowingLines.{IsJsonAs}
 
 -- The text is the lines of these values, none of which has a float.
 pub record AreLines (text : List ℕ) (values : List Data) : Type 0 where
@@ -36,11 +34,6 @@ abbrev mutual
   pub MembersHaveWhole : Members → Type 0
   MembersHaveWhole no_members = Unit {0}
   MembersHaveWhole (member k d ms) = HasWhole d × MembersHaveWhole ms
-
--- what is shown of a file as JSON is the lines of values without floats
-abbrev pub ShownAreLines : Type 0
-ShownAreLines = (kind : FileKind) (input text : List ℕ)
-    → IsJsonAs kind input text → (values : List Data) × AreLines text values
 
 -- two lists of values whose lines are one text have the same texts, one by one
 abbrev pub OneListOfTexts : Type 0

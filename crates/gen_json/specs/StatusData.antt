@@ -1,43 +1,13 @@
--- What a judgement says of each general.
-use Rattle.std.specs.Prelude.{ℕ, Bool, false, ◌==◌, ◌||◌, if◌then◌else◌, List, [], ◌∷◌, codes}
-use Rattle.std.specs.List.{list_any, range_with_len}
+-- What a judgement says of each general, as JSON.
+use Rattle.std.specs.Prelude.{ℕ, List, [], ◌∷◌, codes}
+use Rattle.std.specs.List.{range_with_len}
 use Rattle.serde_json.specs.Data.{Data, string}
-use Rattle.gen_types.specs.Ends.{is_among}
 use Rattle.gen_net.specs.Network.{Network}
 use Rattle.gen_match.specs.declared.finding.Finding.{Finding}
-use Rattle.gen_match.specs.declared.finding.Finding.TheVariants.{Missing, Several, Unreadable, Foreign, Unsigned, Unsealed, Departs, Unmatched, Underivable, Unjoined, Nobody}
 use Rattle.gen_convict.specs.Evidence.{Accusation}
-use Rattle.gen_json.specs.declared.statuses.Status.{Status}
-use Rattle.gen_json.specs.declared.statuses.Status.TheVariants.{Convicted, Held, Suspected, Trusted}
+use Rattle.gen_facts.specs.declared.statuses.Status.{Status}
+use Rattle.gen_facts.specs.Statuses.{status_of, status_word}
 use Rattle.gen_json.specs.JsonData.{whole, list_of, fields}
-
--- whether a finding is one of N1 to N9 and names the general
-abbrev pub names : ℕ → Finding → Bool
-names g (Missing general) = general == g
-names g (Several general) = general == g
-names g (Unreadable general fault) = general == g
-names g (Foreign general) = general == g
-names g (Unsigned general entry) = general == g
-names g (Unsealed general) = general == g
-names g (Departs general entry) = general == g
-names g (Unmatched from to round order) = from == g || to == g
-names g (Underivable from to round order) = from == g || to == g
-names g (Unjoined first second) = false
-names g Nobody = false
-
--- The status of a general. It is convicted if a conviction is its own; or else held for faulty; or else
--- suspected if a finding names it; or else trusted.
-abbrev pub status_of : List ℕ → List Finding → List Accusation → ℕ → Status
-status_of faulty findings convictions g =
-    if list_any (λ x. x.accused == g) convictions then Convicted
-    else (if is_among faulty g then Held else (if list_any (names g) findings then Suspected else Trusted))
-
--- the word for a status
-abbrev pub status_word : Status → List ℕ
-status_word Convicted = codes "convicted"
-status_word Held = codes "held for faulty"
-status_word Suspected = codes "suspected"
-status_word Trusted = codes "trusted"
 
 -- a general and the word for its status
 abbrev pub status_data : ℕ → Status → Data

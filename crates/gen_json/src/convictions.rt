@@ -24,7 +24,11 @@ pub(crate) fn claim_name(claim: &Claim) -> &'static str
 }
 
 /// Returns which general is convicted, and by which kind of evidence.
-pub(crate) fn conviction_value(alloc: Global, evidence: &Evidence) -> Result<Value, AllocError>
+///
+/// # Errors
+///
+/// `AllocError` if memory is refused.
+pub fn conviction_value(alloc: Global, evidence: &Evidence) -> Result<Value, AllocError>
     ensures { IfOk result (λ v. view v ≡ conviction_data (told_of evidence.now)) }
 {
     let mut object = ObjectBuilder::new(alloc);

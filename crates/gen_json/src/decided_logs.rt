@@ -1,29 +1,26 @@
 //! What the shown logs say was decided, as JSON.
 ghost use Rattle.std.specs.Prelude.{◌≡◌, ◌++◌, IfOk, OnOk, map};
 ghost use Rattle.serde_json.specs.View.{view};
-ghost use Rattle.gen_json.specs.DecidedLogs.{exhibit_decision, log_decision_data, logs_data};
+ghost use Rattle.gen_json.specs.DecidedLogs.{decided_data, exhibit_decision, logs_data};
 
 use crate::objects::ObjectBuilder;
 use gen_local::Exhibit;
-use gen_log::{Entry, Log, read_log};
+use gen_log::{Entry, read_log};
 use gen_net::Header;
-use gen_types::{GeneralNo, ReadError};
+use gen_types::ReadError;
 use serde_json::Value;
 use std::alloc::{AllocError, Global};
 
-/// Returns what a log that is shown as a general's decided.
-#[tactic(auto, unfolding(crate::specs::LogData::decided_data))]
-fn decision_value(alloc: Global, general: GeneralNo, log: &Log) -> Result<Value, AllocError>
-    ensures { IfOk result (λ v. view v ≡ log_decision_data general log.now) }
+/// Returns the order of the DECIDE with which these entries end, and null where they end with none.
+#[tactic(auto, unfolding(crate::specs::DecidedLogs::decided_data))]
+pub fn decided_value(entries: &[Entry]) -> Value
+    ensures { view result ≡ decided_data entries.now }
 {
-    let mut object = ObjectBuilder::new(alloc);
-    object.put("general", Value::from(general.get()));
-    match log.entries().last() {
-        Some(Entry::Decide { order, .. }) => object.put("order", Value::from(order.get())),
+    match entries.last() {
+        Some(Entry::Decide { order, .. }) => Value::from(order.get()),
         Some(Entry::Start { .. } | Entry::Sign { .. } | Entry::Send { .. } | Entry::Recv { .. })
-        | None => object.put("order", Value::Null),
+        | None => Value::Null,
     }
-    object.finish()
 }
 
 /// Appends what an exhibit decided; nothing if it doesn't read as a log.
@@ -38,8 +35,10 @@ fn push_decision(
 {
     match read_log(alloc, header, exhibit.log()) {
         Ok(log) => {
-            let value = decision_value(alloc, exhibit.general(), &log)?;
-            serde_json::push(list, value)
+            let mut object = ObjectBuilder::new(alloc);
+            object.put("general", Value::from(exhibit.general().get()));
+            object.put("order", decided_value(log.entries()));
+            serde_json::push(list, object.finish()?)
         }
         Err(ReadError::Memory) => Err(AllocError),
         Err(ReadError::Fault(_)) => Ok(()),

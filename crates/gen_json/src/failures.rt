@@ -1,6 +1,5 @@
 //! Faults in place of answers, as JSON.
 ghost use Rattle.std.specs.Prelude.{◌≡◌, IfOk, option_map};
-ghost use Rattle.serde_json.specs.View.{view};
 ghost use Rattle.gen_json.specs.FailureData.{failure_data};
 ghost use Rattle.gen_json.specs.Line.{ReadsAs, json_line};
 
@@ -9,27 +8,6 @@ use crate::objects::{JSON_VERSION, ObjectBuilder};
 use crate::origins::text_or_null;
 use serde_json::Value;
 use std::alloc::{AllocError, Global};
-
-/// Returns a fault: its line, the kind and the name of the input, if there are any, and the exit status.
-fn failure_value(
-    alloc: Global,
-    line: &str,
-    kind: Option<&str>,
-    name: Option<&str>,
-    status: u8,
-) -> Result<Value, AllocError>
-    ensures { IfOk result (λ v. view v ≡ failure_data line.now (option_map (λ t. t.now) kind.entry)
-        (option_map (λ t. t.now) name.entry) status) }
-{
-    let mut object = ObjectBuilder::new(alloc);
-    object.put_text("fault", line);
-    object.put_text("format", "fault");
-    object.put_made("kind", text_or_null(alloc, kind));
-    object.put_made("name", text_or_null(alloc, name));
-    object.put("status", Value::from(status));
-    object.put("version", Value::from(JSON_VERSION));
-    object.finish()
-}
 
 /// Returns the line of JSON of a fault: its line, the kind of the input by its first bytes and the name of the input's
 /// file, if there are any, and the exit status.
@@ -51,6 +29,13 @@ pub fn print_failure_json(
     ensures reads { IfOk result (λ line_of. ReadsAs line_of.items (failure_data line.now
         (option_map (λ t. t.now) kind.entry) (option_map (λ t. t.now) name.entry) status)) }
 {
-    let value = failure_value(alloc, line, kind, name, status)?;
+    let mut object = ObjectBuilder::new(alloc);
+    object.put_text("fault", line);
+    object.put_text("format", "fault");
+    object.put_made("kind", text_or_null(alloc, kind));
+    object.put_made("name", text_or_null(alloc, name));
+    object.put("status", Value::from(status));
+    object.put("version", Value::from(JSON_VERSION));
+    let value = object.finish()?;
     value_line(alloc, &value)
 }

@@ -1,18 +1,12 @@
 //! Laws about lines of JSON.
 ghost use Rattle.gen_json.specs.Line.{OneValueOfLine};
-ghost use Rattle.gen_json.specs.LineLists.{OneListOfTexts, OneListOfValues, ShownAreLines};
+ghost use Rattle.gen_json.specs.LineLists.{OneListOfTexts, OneListOfValues};
 
 /// States that a line is of one value. So two lines that are equal are of equal values.
 ///
 /// A law: a function with an empty body, whose caller knows what it ensures.
 pub fn one_value_of_line()
     ensures { OneValueOfLine }
-{}
-
-/// What is shown of a file as JSON is the lines of some values, none of which has a float.
-#[tactic(auto, using(crate::proofs::ShownLines::shown_are_lines))]
-pub fn shown_are_lines()
-    ensures { ShownAreLines }
 {}
 
 /// Two lists of values without floats whose lines are one text have the same texts, one by one. So no line feed stands

@@ -1,12 +1,12 @@
 //! Numbers, sets, digits and networks as JSON.
 ghost use Rattle.std.specs.Prelude.{◌≡◌, IfOk};
 ghost use Rattle.serde_json.specs.View.{view};
-ghost use Rattle.gen_json.specs.JsonData.{digits_data, list_of, network_data, numbers_data, pair_data, pairs_data};
+ghost use Rattle.gen_json.specs.JsonData.{digits_data, list_of, network_data, numbers_data, pairs_data};
 
 use crate::objects::ObjectBuilder;
 use gen_net::Net;
 use gen_types::{GeneralNo, NumberSet};
-use serde_json::{Value, json};
+use serde_json::Value;
 use std::alloc::{AllocError, Global};
 
 /// Returns bytes in hexadecimal digits.
@@ -66,18 +66,6 @@ pub fn path_value(alloc: Global, generals: &[GeneralNo]) -> Result<Value, AllocE
     Ok(Value::Array(list))
 }
 
-/// Returns two generals.
-///
-/// # Errors
-///
-/// `AllocError` if memory is refused.
-pub fn pair_value(alloc: Global, pair: (GeneralNo, GeneralNo)) -> Result<Value, AllocError>
-    ensures { IfOk result (λ v. view v ≡ pair_data pair) }
-{
-    let (first, second) = (pair.0.get(), pair.1.get());
-    json!(in alloc; [first, second])
-}
-
 /// Returns the list of pairs of generals.
 ///
 /// # Errors
@@ -88,7 +76,7 @@ pub fn pairs_value(alloc: Global, pairs: &[(GeneralNo, GeneralNo)]) -> Result<Va
 {
     let mut list = Vec::new(alloc);
     for pair in pairs {
-        let value = pair_value(alloc, *pair)?;
+        let value = path_value(alloc, &[pair.0, pair.1])?;
         serde_json::push(&mut list, value)?;
     }
     Ok(Value::Array(list))

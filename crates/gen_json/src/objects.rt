@@ -7,20 +7,22 @@ use serde_json::{Map, ToValue, Value, put};
 use std::alloc::{AllocError, Global};
 
 /// The version of the forms of JSON.
-pub(crate) const JSON_VERSION: u8 = 1;
+pub const JSON_VERSION: u8 = 1;
 
 /// An object whose fields are given one by one. If memory is refused for a field, `finish` tells it. So whoever makes
 /// an object looks for a refusal once.
 #[derive(Drop)]
-pub(crate) struct ObjectBuilder {
+pub struct ObjectBuilder {
     alloc: Global,
-    fields: Map<String, Value>,
-    refused: bool,
+    /// The fields that were given.
+    pub fields: Map<String, Value>,
+    /// Whether memory was refused for a field.
+    pub refused: bool,
 }
 
 impl ObjectBuilder {
     /// Returns an object without fields.
-    pub(crate) fn new(alloc: Global) -> ObjectBuilder
+    pub fn new(alloc: Global) -> ObjectBuilder
         ensures empty { members_view result.fields.entries ≡ no_members }
     {
         ObjectBuilder {
@@ -31,7 +33,7 @@ impl ObjectBuilder {
     }
 
     /// Gives a field this value.
-    pub(crate) fn put(&mut self, name: &str, value: Value)
+    pub fn put(&mut self, name: &str, value: Value)
         ensures kept { self.new.refused ≡ false → self.old.refused ≡ false }
         ensures put { self.new.refused ≡ false → members_view self.new.fields.entries
             ≡ with_member name.now (view value) (members_view self.old.fields.entries) }
@@ -42,7 +44,7 @@ impl ObjectBuilder {
     }
 
     /// Gives a field this text.
-    pub(crate) fn put_text(&mut self, name: &str, text: &str)
+    pub fn put_text(&mut self, name: &str, text: &str)
         ensures kept { self.new.refused ≡ false → self.old.refused ≡ false }
         ensures put { self.new.refused ≡ false → members_view self.new.fields.entries
             ≡ with_member name.now (string text.now) (members_view self.old.fields.entries) }
@@ -54,7 +56,7 @@ impl ObjectBuilder {
     }
 
     /// Gives a field a value that was made, unless memory was refused for it.
-    pub(crate) fn put_made(&mut self, name: &str, value: Result<Value, AllocError>)
+    pub fn put_made(&mut self, name: &str, value: Result<Value, AllocError>)
         ensures kept { self.new.refused ≡ false → self.old.refused ≡ false }
         ensures made { self.new.refused ≡ false → IfErr value (λ _. ⊥) }
         ensures put { self.new.refused ≡ false → IfOk value (λ v. members_view self.new.fields.entries
@@ -71,7 +73,7 @@ impl ObjectBuilder {
     /// # Errors
     ///
     /// `AllocError` if memory was refused for a field.
-    pub(crate) fn finish(self) -> Result<Value, AllocError>
+    pub fn finish(self) -> Result<Value, AllocError>
         ensures whole { IfOk result (λ _. self.refused ≡ false) }
         ensures fields { IfOk result (λ v. view v ≡ object (members_view self.fields.entries)) }
     {

@@ -3,7 +3,7 @@ ghost use Rattle.std.specs.Prelude.{◌≡◌, IfOk, false, map, option_map, str
 ghost use Rattle.serde_json.specs.Data.{object, string};
 ghost use Rattle.serde_json.specs.View.{members_view, view};
 ghost use Rattle.gen_json.specs.JsonData.{digits_data, list_of, numbers_data};
-ghost use Rattle.gen_json.specs.OriginData.{asked_data, input_data, maybe, origin_of, with_origin};
+ghost use Rattle.gen_json.specs.OriginData.{maybe, origin_of, with_origin};
 
 use crate::numbers::{all_digits_value, digits_value, set_value};
 use crate::objects::ObjectBuilder;
@@ -132,27 +132,6 @@ impl Origin {
             None => None,
         }
     }
-
-    /// Returns the object of the input.
-    fn input_value(&self, alloc: Global) -> Result<Value, AllocError>
-        ensures { IfOk result (λ v. view v ≡ input_data self.now) }
-    {
-        let mut object = ObjectBuilder::new(alloc);
-        object.put("bytes", Value::from(self.bytes));
-        object.put_made("name", text_or_null(alloc, self.name()));
-        object.put_made("sha256", digits_value(alloc, &self.digest));
-        object.finish()
-    }
-
-    /// Returns the object of what was asked.
-    fn asked_value(&self, alloc: Global) -> Result<Value, AllocError>
-        ensures { IfOk result (λ v. view v ≡ asked_data self.now) }
-    {
-        let mut object = ObjectBuilder::new(alloc);
-        object.put_made("faulty", set_or_null(alloc, &self.faulty));
-        object.put_made("runs", ids_or_null(alloc, &self.runs));
-        object.finish()
-    }
 }
 
 /// Returns the object of an answer, with where it comes from and the version of the program.
@@ -160,7 +139,7 @@ impl Origin {
 /// # Errors
 ///
 /// `AllocError` if memory is refused, or was refused for a field.
-pub(crate) fn finish_from(
+pub fn finish_from(
     alloc: Global,
     answer: ObjectBuilder,
     origin: &Origin,
@@ -169,9 +148,16 @@ pub(crate) fn finish_from(
     ensures fields { IfOk result (λ v. view v
         ≡ object (with_origin origin.now (members_view answer.fields.entries))) }
 {
+    let mut asked = ObjectBuilder::new(alloc);
+    asked.put_made("faulty", set_or_null(alloc, &origin.faulty));
+    asked.put_made("runs", ids_or_null(alloc, &origin.runs));
+    let mut input = ObjectBuilder::new(alloc);
+    input.put("bytes", Value::from(origin.bytes));
+    input.put_made("name", text_or_null(alloc, origin.name()));
+    input.put_made("sha256", digits_value(alloc, &origin.digest));
     let mut object = answer;
-    object.put_made("asked", origin.asked_value(alloc));
-    object.put_made("input", origin.input_value(alloc));
+    object.put_made("asked", asked.finish());
+    object.put_made("input", input.finish());
     object.put_text("tool", TOOL_VERSION);
     object.finish()
 }

@@ -1,98 +1,17 @@
-//! What a judgement says of each general.
-ghost use Rattle.std.specs.Prelude.{◌≡◌, ◌==◌, IfOk, map};
-ghost use Rattle.std.specs.List.{list_any};
+//! What a judgement says of each general, as JSON.
+ghost use Rattle.std.specs.Prelude.{◌≡◌, IfOk, map};
 ghost use Rattle.serde_json.specs.View.{view};
 ghost use Rattle.gen_convict.specs.Evidence.{told_of};
-ghost use Rattle.gen_json.specs.StatusData.{names, statuses_data, status_of, status_word};
+ghost use Rattle.gen_json.specs.StatusData.{statuses_data};
 
 use crate::objects::ObjectBuilder;
 use gen_convict::Evidence;
+use gen_facts::status_of;
 use gen_match::Finding;
 use gen_net::Net;
 use gen_types::{GeneralNo, GeneralSet};
 use serde_json::Value;
 use std::alloc::{AllocError, Global};
-
-/// What a judgement says of a general. The first of these that fits is the general's.
-#[derive(Clone, Copy, Debug, PartialEq, Eq)]
-pub enum Status {
-    /// A conviction is the general's.
-    Convicted,
-    /// The general is held for faulty.
-    Held,
-    /// One of the findings N1 to N9 names the general.
-    Suspected,
-    /// None of these.
-    Trusted,
-}
-
-impl Status {
-    /// Returns the word for this status.
-    pub fn word(self) -> &'static str
-        ensures { result.now ≡ status_word self }
-    {
-        match self {
-            Status::Convicted => "convicted",
-            Status::Held => "held for faulty",
-            Status::Suspected => "suspected",
-            Status::Trusted => "trusted",
-        }
-    }
-}
-
-/// Returns whether a finding is one of N1 to N9 and names the general.
-fn names(general: GeneralNo, finding: &Finding) -> bool
-    ensures { result ≡ names general finding.now }
-{
-    match *finding {
-        Finding::Missing { general: whose } => whose == general,
-        Finding::Several { general: whose } => whose == general,
-        Finding::Unreadable { general: whose, .. } => whose == general,
-        Finding::Foreign { general: whose } => whose == general,
-        Finding::Unsigned { general: whose, .. } => whose == general,
-        Finding::Unsealed { general: whose } => whose == general,
-        Finding::Departs { general: whose, .. } => whose == general,
-        Finding::Unmatched { from, to, .. } => from == general || to == general,
-        Finding::Underivable { from, to, .. } => from == general || to == general,
-        Finding::Unjoined { .. } | Finding::Nobody => false,
-    }
-}
-
-/// Returns whether one of the findings names a general.
-fn is_named(findings: &[Finding], general: GeneralNo) -> bool
-    ensures { result ≡ list_any (names general) findings.now }
-{
-    findings.iter().any(|finding| names(general, finding))
-}
-
-/// Returns whether one of the convictions is the general's.
-fn is_convicted(convictions: &[Evidence], general: GeneralNo) -> bool
-    ensures { result ≡ list_any (λ x. x.accused == general) (map told_of convictions.now) }
-{
-    convictions
-        .iter()
-        .any(|evidence| evidence.accused == general)
-}
-
-/// Returns what findings and convictions, and the list of those that are held for faulty, say of a general.
-pub fn status_of(
-    faulty: &GeneralSet,
-    findings: &[Finding],
-    convictions: &[Evidence],
-    general: GeneralNo,
-) -> Status
-    ensures { result ≡ status_of faulty.now findings.now (map told_of convictions.now) general }
-{
-    if is_convicted(convictions, general) {
-        Status::Convicted
-    } else if faulty.contains(general) {
-        Status::Held
-    } else if is_named(findings, general) {
-        Status::Suspected
-    } else {
-        Status::Trusted
-    }
-}
 
 /// Returns the list of the statuses of all generals of a network.
 pub(crate) fn statuses_value(

@@ -2,9 +2,8 @@
 ghost use Rattle.std.specs.Prelude.{◌≡◌, IfOk, Some, map, option_map};
 ghost use Rattle.serde_json.specs.View.{view};
 ghost use Rattle.gen_convict.specs.Evidence.{told_of};
-ghost use Rattle.gen_plan.specs.EqualRoots.{equal_roots};
 ghost use Rattle.gen_plan.specs.Parted.{parted_pair};
-ghost use Rattle.gen_json.specs.JsonData.{pair_data, pairs_data};
+ghost use Rattle.gen_json.specs.JsonData.{pair_data};
 ghost use Rattle.gen_json.specs.Line.{ReadsAs, json_line};
 ghost use Rattle.gen_json.specs.OriginData.{maybe};
 ghost use Rattle.gen_json.specs.VerdictData.{decisions_in, judgement_data, order_data, verdict_word};
@@ -14,12 +13,12 @@ use crate::decided_logs::logs_value;
 use crate::decisions::all_decided_value;
 use crate::findings::findings_value;
 use crate::lines::value_line;
-use crate::numbers::{digits_value, network_value, pair_value, pairs_value, set_value};
+use crate::numbers::{digits_value, network_value, pairs_value, path_value, set_value};
 use crate::objects::{JSON_VERSION, ObjectBuilder};
 use crate::origins::{Origin, finish_from};
 use crate::statuses::statuses_value;
 use gen_audit::{Bundle, Judgement, Verdict};
-use gen_net::{Header, Net};
+use gen_net::Net;
 use gen_plan::{equal_roots, parted_pair};
 use gen_scenario::Decision;
 use gen_types::GeneralSet;
@@ -40,27 +39,23 @@ fn parts(verdict: &Verdict) -> (&'static str, Value, &[Decision])
     }
 }
 
-/// Returns the list of the pairs of generals of a header that have the same root.
-fn equal_roots_value(alloc: Global, header: &Header) -> Result<Value, AllocError>
-    ensures { IfOk result (λ v. view v ≡ pairs_data (equal_roots header.now)) }
-{
-    let pairs = equal_roots(alloc, header)?;
-    pairs_value(alloc, pairs.as_slice())
-}
-
 /// Returns the least pair of the generals that are not faulty which no walk of at most d edges through such generals
 /// joins, and null if each pair is joined.
 fn parted_value(alloc: Global, net: &Net, faulty: &GeneralSet) -> Result<Value, AllocError>
     ensures { IfOk result (λ v. view v ≡ maybe pair_data (parted_pair net.now faulty.now)) }
 {
     match parted_pair(net, faulty) {
-        Some(pair) => pair_value(alloc, pair),
+        Some((first, second)) => path_value(alloc, &[first, second]),
         None => Ok(Value::Null),
     }
 }
 
 /// Returns the judgement on a bundle, with where the answer comes from, if that is told.
-pub(crate) fn judgement_value(
+///
+/// # Errors
+///
+/// `AllocError` if memory is refused.
+pub fn judgement_value(
     alloc: Global,
     origin: Option<&Origin>,
     bundle: &Bundle,
@@ -74,10 +69,11 @@ pub(crate) fn judgement_value(
     let accused = judgement.convictions.as_slice();
     let (header, faulty) = (bundle.header(), bundle.faulty());
     let net = header.net();
+    let pairs = equal_roots(alloc, header)?;
     let mut object = ObjectBuilder::new(alloc);
     object.put_made("convictions", convictions_value(alloc, accused));
     object.put_made("decisions", all_decided_value(alloc, decisions));
-    object.put_made("equal_roots", equal_roots_value(alloc, header));
+    object.put_made("equal_roots", pairs_value(alloc, pairs.as_slice()));
     object.put_made("faulty", set_value(alloc, faulty));
     object.put_made("findings", findings_value(alloc, findings));
     object.put_text("format", "verdict");

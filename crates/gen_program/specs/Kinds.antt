@@ -4,8 +4,8 @@ use Rattle.std.specs.declared.io.Error.{Error}
 use Rattle.std.specs.declared.io.ErrorKind.TheVariants.{OutOfMemory}
 use Rattle.std.specs.IoError.{error_kind}
 use Rattle.gen_jobs.specs.InputKinds.{kind_of}
-use Rattle.gen_jobs.specs.declared.ends.JobFault.{JobFault}
-use Rattle.gen_jobs.specs.declared.ends.JobFault.TheVariants as faults
+use Rattle.gen_ends.specs.declared.ends.JobFault.{JobFault}
+use Rattle.gen_ends.specs.declared.ends.JobFault.TheVariants as faults
 use Rattle.gen_asked.specs.declared.forms.Form.{Form}
 use Rattle.gen_asked.specs.declared.forms.Form.TheVariants as forms
 use Rattle.gen_jobs.specs.declared.input_kinds.InputKind.{InputKind}

@@ -3,13 +3,13 @@ use Rattle.std.specs.Prelude.{◌≡◌, ℕ, ◌⊎◌}
 use Rattle.clap.specs.declared.error.Error.{Error}
 use Rattle.clap.specs.declared.error.kind.ErrorKind.TheVariants.{DisplayHelp, DisplayVersion}
 use Rattle.clap.specs.Words.{kind_of}
-use Rattle.gen_jobs.specs.declared.ends.JobEnd.{JobEnd}
-use Rattle.gen_jobs.specs.declared.ends.JobEnd.TheVariants.{Done, Failed}
-use Rattle.gen_jobs.specs.declared.ends.JobFault.TheVariants as faults
+use Rattle.gen_ends.specs.declared.ends.JobEnd.{JobEnd}
+use Rattle.gen_ends.specs.declared.ends.JobEnd.TheVariants.{Done, Failed}
+use Rattle.gen_ends.specs.declared.ends.JobFault.TheVariants as faults
 use Rattle.gen_words.specs.declared.words.WordsFault.{WordsFault}
 use Rattle.gen_words.specs.declared.words.WordsFault.TheVariants.{Memory, NotText, NoCommand, Words}
 use Rattle.gen_words.specs.declared.words.WordsFault.TheVariants.{BadCapacity, BadWorkers, BadGeneral, BadSlot, BadRun, BadFaulty, BadLog, TwoStandard}
-use Rattle.gen_jobs.specs.Ends.{status_of}
+use Rattle.gen_ends.specs.Ends.{status_of}
 
 -- the exit status for words that ask for no job
 abbrev pub words_status : ℕ

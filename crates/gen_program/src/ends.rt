@@ -1,7 +1,7 @@
 //! What is told of how a job ended, on standard error and as JSON on standard output, and the exit status of its end.
 ghost use Rattle.std.specs.Prelude.{◌≡◌};
-ghost use Rattle.gen_jobs.specs.Ends.{status_of};
-ghost use Rattle.gen_jobs.specs.declared.ends.JobEnd.{JobEnd};
+ghost use Rattle.gen_ends.specs.Ends.{status_of};
+ghost use Rattle.gen_ends.specs.declared.ends.JobEnd.{JobEnd};
 
 use crate::details::{Detail, Seen, detail_of};
 use crate::kinds::answers_in_json;

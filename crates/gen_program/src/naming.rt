@@ -20,7 +20,8 @@ fn push_plan(alloc: Global, lines: &mut String, header: &[u8]) -> Result<(), All
     let Ok(told) = answer_in_place(alloc, plan, None, header) else {
         return Err(AllocError);
     };
-    if let (true, Ok(text)) = (told.negative, str::from_utf8(&told.text)) {
+    let output = told.output;
+    if let (true, Ok(text)) = (output.negative, str::from_utf8(&output.text)) {
         for part in text.lines().take(WHY) {
             write!(lines, "{part}, ")?;
         }

@@ -1,8 +1,8 @@
 //! The program: from its words to its exit status.
 ghost use Rattle.std.specs.Prelude.{◌≡◌, IfOk, map, string_bytes};
-ghost use Rattle.gen_jobs.specs.Ends.{status_of};
+ghost use Rattle.gen_ends.specs.Ends.{status_of};
 ghost use Rattle.gen_asked.specs.Ranges.{IsInRange};
-ghost use Rattle.gen_jobs.specs.declared.ends.JobEnd.{JobEnd};
+ghost use Rattle.gen_ends.specs.declared.ends.JobEnd.{JobEnd};
 ghost use Rattle.gen_program.specs.Refusal.{IsStatus, Refuses};
 ghost use Rattle.gen_program.specs.Sources.{writes_bytes};
 

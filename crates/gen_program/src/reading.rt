@@ -69,7 +69,7 @@ impl<'a> Failure<'a> {
 }
 
 impl<'a> From<AllocError> for Failure<'a> {
-    ghost use Rattle.gen_jobs.specs.declared.ends.JobFault.TheVariants.{Memory};
+    ghost use Rattle.gen_ends.specs.declared.ends.JobFault.TheVariants.{Memory};
 
     ghost from_gives = { λ _ e. e.fault ≡ Memory };
 

@@ -1,3 +1,2 @@
 mod Chains
-mod Found
 pub mod Offsets

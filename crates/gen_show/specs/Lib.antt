@@ -4,9 +4,6 @@ pub mod EvidenceText
 pub mod HeaderText
 pub mod LogText
 pub mod Offsets
-pub mod Rows
+pub mod Runs
 pub mod Showing
-pub mod Shown
-pub mod Table
-pub mod Worded
 pub mod Words

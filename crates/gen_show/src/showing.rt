@@ -1,27 +1,22 @@
 //! What a file is, as lines of text.
-ghost use Rattle.std.specs.Prelude.{◌≡◌, ◌++◌, Err, IfOk, OnOk, string_bytes};
+ghost use Rattle.std.specs.Prelude.{◌≡◌, ◌++◌, IfOk, OnOk, string_bytes};
 ghost use Rattle.gen_net.specs.FrontReading.{front_at};
-ghost use Rattle.gen_convict.specs.Evidence.{told_of};
-ghost use Rattle.gen_convict.specs.EvidenceReading.{IsWhole};
-ghost use Rattle.gen_convict.specs.Told.{told};
 ghost use Rattle.gen_file.specs.Kinds.{file_kind};
-ghost use Rattle.gen_file.specs.Parts.{HasRoom, front_end};
+ghost use Rattle.gen_file.specs.Parts.{front_end};
 ghost use Rattle.gen_file.specs.declared.kinds.FileKind.TheVariants as kinds;
-ghost use Rattle.gen_campaign.specs.CampaignParts.{HaveRoom};
 ghost use Rattle.gen_campaign.specs.WholeFile.{is_whole_as};
-ghost use Rattle.gen_show.specs.CampaignText.{campaign_lines};
-ghost use Rattle.gen_show.specs.Showing.{IsEvidenceText, IsTextAs, TellsEvidence, campaign_reading_lines, fault_line, faulty_lines, front_lines};
+ghost use Rattle.gen_show.specs.Showing.{IsTextAs, fault_line, faulty_lines, front_lines};
 
 use crate::campaigns::push_campaign;
 use crate::evidence::push_evidence;
 use crate::headers::push_header;
-use gen_campaign::{CampaignBundle, CampaignFault, push_campaign_fault, read_campaign};
-use gen_convict::{Evidence, EvidenceFault, check_evidence, read_evidence};
+use gen_campaign::{push_campaign_fault, read_campaign};
+use gen_convict::{check_evidence, read_evidence};
 use gen_file::{
     BUNDLE_MARKS, EVIDENCE_MARKS, FileKind, Shown, file_kind, front_length, push_evidence_fault,
     push_header_fault,
 };
-use gen_net::{Header, Marks, read_front, read_header};
+use gen_net::{Marks, read_front, read_header};
 use gen_types::ReadError;
 use std::alloc::{AllocError, Global};
 
@@ -73,26 +68,6 @@ fn faulty(
     Ok(out.into_bytes())
 }
 
-/// Returns the lines of bytes that show no campaign, with this fault.
-fn faulty_campaign(alloc: Global, input: &[u8], fault: CampaignFault) -> Result<Vec<u8>, AllocError>
-    ensures { IfOk result (λ text. text.items
-        ≡ campaign_reading_lines input.now (Err fault)) }
-{
-    let mut name = String::new(alloc);
-    push_campaign_fault(&mut name, fault)?;
-    faulty(alloc, "bundle", BUNDLE_MARKS, input, name.as_str())
-}
-
-/// Returns the lines of what is shown of a campaign.
-fn whole_campaign(alloc: Global, campaign: &CampaignBundle) -> Result<Vec<u8>, AllocError>
-    requires { HaveRoom campaign.now.alone campaign.now.bundles }
-    ensures { IfOk result (λ text. text.items ≡ campaign_lines campaign.now) }
-{
-    let mut out = String::new(alloc);
-    push_campaign(alloc, &mut out, campaign)?;
-    Ok(out.into_bytes())
-}
-
 /// Returns the lines of what is read as shown of a campaign.
 #[tactic(auto, using(gen_campaign::proofs::CampaignLengths::campaign_has_room))]
 fn show_campaign(alloc: Global, input: &[u8]) -> Result<Shown, AllocError>
@@ -102,42 +77,20 @@ fn show_campaign(alloc: Global, input: &[u8]) -> Result<Shown, AllocError>
     // The bundles end within the input.
     let _count = input.len();
     match read_campaign(alloc, input) {
-        Ok(campaign) => Ok(Shown {
-            text: whole_campaign(alloc, &campaign)?,
-            whole: true,
-        }),
+        Ok(campaign) => {
+            let mut out = String::new(alloc);
+            push_campaign(alloc, &mut out, &campaign)?;
+            let text = out.into_bytes();
+            Ok(Shown { text, whole: true })
+        }
         Err(ReadError::Memory) => Err(AllocError),
-        Err(ReadError::Fault(fault)) => Ok(Shown {
-            text: faulty_campaign(alloc, input, fault)?,
-            whole: false,
-        }),
+        Err(ReadError::Fault(fault)) => {
+            let mut name = String::new(alloc);
+            push_campaign_fault(&mut name, fault)?;
+            let text = faulty(alloc, "bundle", BUNDLE_MARKS, input, name.as_str())?;
+            Ok(Shown { text, whole: false })
+        }
     }
-}
-
-/// Returns the lines of bytes that are no evidence, with this fault.
-fn faulty_evidence(alloc: Global, input: &[u8], fault: EvidenceFault) -> Result<Vec<u8>, AllocError>
-    ensures { IfOk result (λ text. IsEvidenceText input.now text.items (Err fault)) }
-{
-    let mut name = String::new(alloc);
-    push_evidence_fault(&mut name, fault)?;
-    faulty(alloc, "evidence", EVIDENCE_MARKS, input, name.as_str())
-}
-
-/// Returns the lines of evidence, with whether it holds.
-fn whole_evidence(
-    alloc: Global,
-    header: &Header,
-    evidence: &Evidence,
-) -> Result<Vec<u8>, AllocError>
-    requires lawful { IsWhole (record { header = header.now; evidence = told_of evidence.now }) }
-    requires room { HasRoom header.now (told evidence.now.claim) }
-    ensures { IfOk result (λ text. TellsEvidence text.items
-        (record { header = header.now; evidence = told_of evidence.now })) }
-{
-    let holds = check_evidence(alloc, header, evidence)?;
-    let mut out = String::new(alloc);
-    push_evidence(alloc, &mut out, holds, header, evidence)?;
-    Ok(out.into_bytes())
 }
 
 /// Returns the lines of what is read as evidence.
@@ -149,15 +102,20 @@ fn show_evidence(alloc: Global, input: &[u8]) -> Result<Shown, AllocError>
     // The log of the claim ends within the input.
     let _count = input.len();
     match read_evidence(alloc, input) {
-        Ok((header, evidence)) => Ok(Shown {
-            text: whole_evidence(alloc, &header, &evidence)?,
-            whole: true,
-        }),
+        Ok((header, evidence)) => {
+            let holds = check_evidence(alloc, &header, &evidence)?;
+            let mut out = String::new(alloc);
+            push_evidence(alloc, &mut out, holds, &header, &evidence)?;
+            let text = out.into_bytes();
+            Ok(Shown { text, whole: true })
+        }
         Err(ReadError::Memory) => Err(AllocError),
-        Err(ReadError::Fault(fault)) => Ok(Shown {
-            text: faulty_evidence(alloc, input, fault)?,
-            whole: false,
-        }),
+        Err(ReadError::Fault(fault)) => {
+            let mut name = String::new(alloc);
+            push_evidence_fault(&mut name, fault)?;
+            let text = faulty(alloc, "evidence", EVIDENCE_MARKS, input, name.as_str())?;
+            Ok(Shown { text, whole: false })
+        }
     }
 }
 

@@ -12,7 +12,7 @@ fn laws_of_texts() {
     gen_draw::laws::messages_stand_where_logs_say();
     gen_show::laws::offsets_are_right();
     gen_json::laws::one_value_of_line();
-    gen_json::laws::shown_are_lines();
+    gen_json_files::laws::shown_are_lines();
     gen_json::laws::one_list_of_texts();
     gen_json::laws::one_list_of_values();
 }

@@ -44,7 +44,7 @@ fn answered_in_place<R: Threads + Wait + Sync>(
         Job::Run { .. } | Job::Judge { .. } | Job::Campaign { .. } => answered(
             rt, alloc, job, input,
         ),
-        _ => answer_in_place(alloc, job, None, input),
+        _ => Ok(answer_in_place(alloc, job, None, input)?.output),
     }
 }
 

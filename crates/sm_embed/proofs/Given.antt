@@ -1,88 +1,75 @@
--- What was handed answers the input.
-use Rattle.std.proofs.Common.{◌≡◌, ℕ, Bool, List, Option, Some, None, Result, Ok, Err, inl, inr, subst, sym}
+-- What is made of an answer about a general that may be no run's.
+use native.Mathlib.Omega.{arith}
+use Rattle.std.proofs.Common.{◌≡◌, ◌<◌, ◌≤◌, ℕ, Bool, true, false, if◌then◌else◌, List, Option, Some, None, Result, Ok, Err, inl, inr, refl, sym, subst}
 use Rattle.std.specs.Prelude.{IfOk, IfErr}
-use Rattle.std.specs.Result.{result_transpose}
 use Rattle.std.proofs.lemmas.Option.{none-some, same_Some}
-use Rattle.gen_jobs.specs.declared.ends.JobFault.{JobFault}
-use Rattle.gen_jobs.specs.declared.ends.Output.{Output}
-use Rattle.gen_jobs.specs.declared.ends.JobFault.TheVariants as faults
 use Rattle.gen_asked.specs.declared.asked_runs.AskedRuns.{AskedRuns}
 use Rattle.gen_asked.specs.declared.jobs.Job.TheVariants.{Accuse}
-use Rattle.gen_jobs.specs.Audit.{IsAuditFault}
+use Rattle.gen_ends.specs.declared.ends.JobFault.{JobFault}
+use Rattle.gen_ends.specs.declared.ends.JobFault.TheVariants as faults
+use Rattle.gen_facts.specs.declared.fact.Fact.{Fact}
+use Rattle.gen_judging.specs.Asking.{IsAccusedOf}
+use Rattle.gen_jobs.specs.declared.in_place.Answered.{Answered}
+use Rattle.gen_jobs.specs.Facts.{JobFacts}
 use Rattle.gen_jobs.specs.Jobs.{JobFails}
-use Rattle.sm_embed.specs.Handing.{Hands, HandsOver, IsHanded}
-use Rattle.sm_embed.specs.Making.{IsMade, KeepsOver, Makes, status_of_made}
+use Rattle.sm_embed.specs.Knowing.{AccusesKnown, Knows}
+use Rattle.sm_embed.specs.Loops.Keeping.{Keeps}
+use Rattle.sm_embed.specs.Making.{IsMade, MakesJob, line_number}
 use Rattle.sm_embed.specs.declared.kept.Kept.{Kept}
-use Rattle.sm_embed.specs.declared.made.Made.{Made}
-use Rattle.sm_embed.specs.declared.made.Made.TheVariants as made
-use Rattle.sm_embed.specs.Statuses.{status_of_handed}
-use Rattle.sm_embed.specs.declared.handed.Handed.{Handed}
-use Rattle.sm_embed.specs.declared.handed.Handed.TheVariants.{Yes, No, Line, Nothing, Length}
 
--- by an answer, or by a fault in its place
-hands : (A : List ℕ → Bool → Type 0) (F : JobFault → Type 0) (answer : Result Output JobFault) (old new : List ℕ) (count : ℕ) (h : Handed) → IfOk answer (λ o. A o.text.items o.negative) → IfErr answer F → HandsOver answer old new count h → Hands A F old new count h
-hands A F (Ok o) old new count Yes a f over = (o.text.items, subst (λ no. A o.text.items no) over.0 a, over.1)
-hands A F (Ok o) old new count No a f over = (o.text.items, subst (λ no. A o.text.items no) over.0 a, over.1)
-hands A F (Ok o) old new count (Line g) a f over = absurd over
-hands A F (Ok o) old new count Nothing a f over = absurd over
-hands A F (Ok o) old new count Length a f over = inl (o.text.items, o.negative, a, over)
-hands A F (Err fault) old new count Yes a f over = absurd over
-hands A F (Err fault) old new count No a f over = absurd over
-hands A F (Err fault) old new count (Line g) a f over = (rw over.0 f, over.1, over.2)
-hands A F (Err fault) old new count Nothing a f over = over
-hands A F (Err fault) old new count Length a f over = inr (fault, f, over.0, over.1)
+-- by an answer, which says no or doesn't
+by_answer : (A : List ℕ → Bool → Type 0) (B : List Fact → Type 0) (F : JobFault → Type 0) (negative : Bool) (kept : Kept) (status : ℕ) → A kept.text.items negative → B kept.facts.items → status ≡ (if negative then 1 else 0) → IsMade A B F (Some kept) status
+by_answer A B F true kept status a b s = inr (inl (s, (a, b)))
+by_answer A B F false kept status a b s = inl (s, (a, b))
 
--- and the number says so
-pub is_handed : (A : List ℕ → Bool → Type 0) (F : JobFault → Type 0) (answer : Result Output JobFault) (old new : List ℕ) (count status : ℕ) (h : Handed) → status ≡ status_of_handed h → IfOk answer (λ o. A o.text.items o.negative) → IfErr answer F → HandsOver answer old new count h → IsHanded A F old new count status
-is_handed A F answer old new count status h is a f over = (h, is, hands A F answer old new count h a f over)
+-- an answer or the fault in its place
+pub is_made : (A : List ℕ → Bool → Type 0) (B : List Fact → Type 0) (F : JobFault → Type 0) (answered : Result Answered JobFault) (held : Option Kept) (status : ℕ) → IfOk answered (λ a. A a.output.text.items a.output.negative) → IfOk answered (λ a. B a.facts.items) → IfErr answered F → Keeps answered held status → IsMade A B F held status
+is_made A B F answered None status a b f keeps = inr (inr (inr (keeps, refl)))
+is_made A B F (Ok answered) (Some kept) status a b f keeps = by_answer A B F answered.output.negative kept status (subst (λ (k : Kept). A k.text.items answered.output.negative) (sym keeps.0) a) (subst (λ (k : Kept). B k.facts.items) (sym keeps.0) b) keeps.1
+is_made A B F (Err fault) (Some kept) status a b f keeps = inr (inr (inl (fault, f, keeps.0, keeps.1)))
 
--- ---- what an answer holds
+-- the number for a line is none of an answer
+numbered : (f : JobFault) (n : ℕ) → line_number f ≡ Some n → 3 ≤ n
+numbered faults.OtherRun n e = let is : 7 ≡ n = same_Some 7 n e in omega arith
+numbered (faults.Scenario f) n e = let is : 3 ≡ n = same_Some 3 n e in omega arith
+numbered (faults.Campaign f) n e = let is : 3 ≡ n = same_Some 3 n e in omega arith
+numbered (faults.Evidence f) n e = let is : 3 ≡ n = same_Some 3 n e in omega arith
+numbered (faults.Log f) n e = let is : 3 ≡ n = same_Some 3 n e in omega arith
+numbered (faults.Seed f) n e = let is : 3 ≡ n = same_Some 3 n e in omega arith
+numbered (faults.EqualRoots a b) n e = let is : 3 ≡ n = same_Some 3 n e in omega arith
+numbered faults.Memory n e = absurd (none-some n e)
+numbered faults.Thread n e = absurd (none-some n e)
+numbered faults.Open n e = absurd (none-some n e)
+numbered faults.Read n e = absurd (none-some n e)
+numbered faults.Write n e = absurd (none-some n e)
 
-makes : (A : List ℕ → Bool → Type 0) (F : JobFault → Type 0) (answered : Result Output JobFault) (held : Option Kept) (m : Made) → IfOk answered (λ o. A o.text.items o.negative) → IfErr answered F → KeepsOver answered held m → Makes A F held m
-makes A F (Ok o) held made.Yes a f over = (o.text.items, subst (λ no. A o.text.items no) over.0 a, over.1)
-makes A F (Ok o) held made.No a f over = (o.text.items, subst (λ no. A o.text.items no) over.0 a, over.1)
-makes A F (Ok o) held (made.Line g) a f over = absurd over
-makes A F (Ok o) held made.Nothing a f over = over
-makes A F (Err fault) held made.Yes a f over = absurd over
-makes A F (Err fault) held made.No a f over = absurd over
-makes A F (Err fault) held (made.Line g) a f over = (rw over.0 f, over.1, over.2)
-makes A F (Err fault) held made.Nothing a f over = over
+-- what is made of an answer, if something else is so as well
+made_too : (A : List ℕ → Bool → Type 0) (B : List Fact → Type 0) (F : JobFault → Type 0) (K : Type 0) (held : Option Kept) (status : ℕ) → K → IsMade A B F held status → IsMade (λ text negative. A text negative × K) B F held status
+made_too A B F K None status k (inl x) = absurd x.1
+made_too A B F K (Some kept) status k (inl x) = inl (x.0, ((x.1.0, k), x.1.1))
+made_too A B F K None status k (inr (inl x)) = absurd x.1
+made_too A B F K (Some kept) status k (inr (inl x)) = inr (inl (x.0, ((x.1.0, k), x.1.1)))
+made_too A B F K held status k (inr (inr x)) = inr (inr x)
 
--- and the number says so
-pub is_made : (A : List ℕ → Bool → Type 0) (F : JobFault → Type 0) (answered : Result Output JobFault) (held : Option Kept) (status : ℕ) (m : Made) → status ≡ status_of_made m → IfOk answered (λ o. A o.text.items o.negative) → IfErr answered F → KeepsOver answered held m → IsMade A F held status
-is_made A F answered held status m is a f over = (m, is, makes A F answered held m a f over)
+-- an answer at 0 and 1
+answered_at : (A : List ℕ → Bool → Type 0) (B : List Fact → Type 0) (F : JobFault → Type 0) (held : Option Kept) (status : ℕ) → status ≤ 1 → IsMade A B F held status → (text : List ℕ) × (negative : Bool) × A text negative
+answered_at A B F None status few (inl x) = absurd x.1
+answered_at A B F (Some kept) status few (inl x) = (kept.text.items, false, x.1.0)
+answered_at A B F None status few (inr (inl x)) = absurd x.1
+answered_at A B F (Some kept) status few (inr (inl x)) = (kept.text.items, true, x.1.0)
+answered_at A B F held status few (inr (inr (inl x))) = let more : 3 ≤ status = numbered x.0 status x.2 in absurd (omega arith)
+answered_at A B F held status few (inr (inr (inr x))) = let is : status ≡ 4 = x.0 in absurd (omega arith)
 
--- ---- a general that may be no run's
+-- nothing is answered, so it does not matter whose the general is
+pub made_of_fault : (general : ℕ) (asked : AskedRuns) (input : List ℕ) (held : Option Kept) (status : ℕ) → 1 < status → MakesJob (Accuse general asked) input held status → AccusesKnown general asked input held status
+made_of_fault general asked input held status more (inl x) = let is : status ≡ 0 = x.0 in absurd (omega arith)
+made_of_fault general asked input held status more (inr (inl x)) = let is : status ≡ 1 = x.0 in absurd (omega arith)
+made_of_fault general asked input held status more (inr (inr x)) = inr (inr (inr x))
 
--- what is said of an answer that may be none, if it is none
-pub of_none : {T E : Type 0} (P : Option T → Type 0) (answer : Result (Option T) E) → None ≡ result_transpose answer → IfOk answer P → P None
-of_none P (Ok None) e a = a
-of_none P (Ok (Some o)) e a = absurd (none-some (Ok o) e)
-of_none P (Err fault) e a = absurd (none-some (Err fault) e)
+-- the general is one of a run's
+pub made_of_known : (general : ℕ) (asked : AskedRuns) (input : List ℕ) (held : Option Kept) (status : ℕ) → MakesJob (Accuse general asked) input held status → Knows general input true → AccusesKnown general asked input held status
+made_of_known general asked input held status made known = inr (made_too (IsAccusedOf asked general input) (JobFacts (Accuse general asked) input) (JobFails (Accuse general asked) input) (Knows general input true) held status known made)
 
--- the same if there is one
-pub of_some : {T E : Type 0} (P : Option T → Type 0) (answer : Result (Option T) E) (given : Result T E) → Some given ≡ result_transpose answer → IfOk answer P → IfOk given (λ o. P (Some o))
-of_some P (Ok None) given e a = absurd (none-some given (sym e))
-of_some P (Ok (Some o)) given e a = subst (λ g. IfOk g (λ it. P (Some it))) (sym (same_Some given (Ok o) e)) a
-of_some P (Err fault) given e a = subst (λ g. IfOk g (λ it. P (Some it))) (sym (same_Some given (Err fault) e)) tt
-
--- the same if there is a fault
-pub of_fault : {T E : Type 0} (F : E → Type 0) (answer : Result (Option T) E) (given : Result T E) → Some given ≡ result_transpose answer → IfErr answer F → IfErr given F
-of_fault F (Ok None) given e f = absurd (none-some given (sym e))
-of_fault F (Ok (Some o)) given e f = subst (λ g. IfErr g F) (sym (same_Some given (Ok o) e)) tt
-of_fault F (Err fault) given e f = subst (λ g. IfErr g F) (sym (same_Some given (Err fault) e)) f
-
--- a fault of any input that should be a bundle or a campaign is one of the job accuse
-pub is_accuse_fault : (general : ℕ) (asked : AskedRuns) (input : List ℕ) (f : JobFault) → IsAuditFault input f → JobFails (Accuse general asked) input f
-is_accuse_fault general asked input faults.Memory h = h
-is_accuse_fault general asked input faults.OtherRun h = absurd h
-is_accuse_fault general asked input faults.Thread h = absurd h
-is_accuse_fault general asked input faults.Read h = absurd h
-is_accuse_fault general asked input faults.Write h = absurd h
-is_accuse_fault general asked input faults.Open h = absurd h
-is_accuse_fault general asked input (faults.Scenario f) h = absurd h
-is_accuse_fault general asked input (faults.Campaign f) h = h
-is_accuse_fault general asked input (faults.Evidence f) h = absurd h
-is_accuse_fault general asked input (faults.Log f) h = absurd h
-is_accuse_fault general asked input (faults.Seed f) h = absurd h
-is_accuse_fault general asked input (faults.EqualRoots a b) h = absurd h
+-- the general is no run's, so what was made is dropped
+pub made_of_nobody : (general : ℕ) (asked : AskedRuns) (input : List ℕ) (made left : Option Kept) (status : ℕ) → status ≤ 1 → MakesJob (Accuse general asked) input made status → Knows general input false → left ≡ None → AccusesKnown general asked input left 6
+made_of_nobody general asked input made left status few is nobody empty = inl (refl, empty, (answered_at (IsAccusedOf asked general input) (JobFacts (Accuse general asked) input) (JobFails (Accuse general asked) input) made status few is, nobody))

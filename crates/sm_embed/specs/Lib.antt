@@ -1,6 +1,6 @@
 pub mod Handing
 pub mod Knowing
+pub mod Loops
 pub mod Making
+pub mod Options
 pub mod Owning
-pub mod Runs
-pub mod Statuses

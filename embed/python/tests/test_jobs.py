@@ -19,6 +19,14 @@ def ended(call, *words):
         return told.line
 
 
+def accused(general, given):
+    """The evidence against a node, of which there is none against one that is none of the run's."""
+    try:
+        return vamuretu.accuse(general, given)
+    except vamuretu.Nobody:
+        return None
+
+
 def told(words, given):
     """The same of the reference. The library tells the first line of a fault alone, and no object of it."""
     status, wrote, said = answer(tuple(words), given)
@@ -52,7 +60,7 @@ class Jobs(unittest.TestCase):
             for general in (0, 1, 15):
                 with self.subTest(path.name, general=general):
                     given = path.read_bytes()
-                    got = ended(vamuretu.accuse, general, given)
+                    got = ended(accused, general, given)
                     text = got if isinstance(got, str) else (got or b"").decode("latin-1")
                     self.assertEqual(text, told(["accuse", "--general", str(general)], given))
 
@@ -104,16 +112,19 @@ class Jobs(unittest.TestCase):
         self.assertFalse(vamuretu.evidence(data[:-1] + bytes([data[-1] ^ 1])).holds)
         self.assertIsNone(vamuretu.accuse(1, bundle))
 
-    def test_known_generals(self):
+    def test_nobody(self):
         bundle = (EXAMPLES / "split.bundle").read_bytes()
-        for general in range(3):
-            self.assertEqual(vamuretu.accuse(general, bundle, known=True), vamuretu.accuse(general, bundle))
+        own = vamuretu.run_ids(bundle)
         for general in (3, 15):
-            self.assertIsNone(vamuretu.accuse(general, bundle))
-            self.assertRaises(vamuretu.Misuse, vamuretu.accuse, general, bundle, known=True)
-            own = vamuretu.run_ids(bundle)
-            self.assertRaises(vamuretu.Misuse, vamuretu.accuse, general, bundle, known=True, runs=own)
-            self.assertRaises(vamuretu.OtherRun, vamuretu.accuse, general, bundle, known=True, runs=["0" * 64])
+            self.assertRaises(vamuretu.Nobody, vamuretu.accuse, general, bundle)
+            self.assertRaises(vamuretu.Misuse, vamuretu.accuse, general, bundle, runs=own)
+            self.assertRaises(vamuretu.OtherRun, vamuretu.accuse, general, bundle, runs=["0" * 64])
+
+    def test_parts_of_verdicts(self):
+        verdict = vamuretu.audit((EXAMPLES / "split.bundle").read_bytes())
+        self.assertEqual((verdict.generals, verdict.traitors, verdict.faulty), (3, 1, (0,)))
+        self.assertEqual((verdict.order, verdict.convictions), (0, (vamuretu.Conviction(0, 2),)))
+        self.assertEqual(verdict.statuses, ("convicted", "trusted", "trusted"))
 
     def test_runs(self):
         bundle, series, found = ((EXAMPLES / name).read_bytes() for name in ("split.bundle", "series.bundles", "split.evidence"))

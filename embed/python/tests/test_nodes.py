@@ -1,6 +1,7 @@
 """Nodes: runs whose logs are those of a scenario, and calls that end otherwise."""
 
 import copy
+import json
 import os
 import pickle
 import threading
@@ -31,10 +32,10 @@ class Runs(unittest.TestCase):
         self.assertEqual((status, logs), (0, {general: exhibits[general] for general in four.loyal()}))
         made = vamuretu.bundle(header, four.silent, logs.items())
         self.assertEqual(exhibits_of(made), (front, logs))
-        decided = answer(("decide",), four.scenario())[1].decode()
-        self.assertEqual(orders, {it.general: it.order for it in vamuretu.read_decisions(decided)})
-        verdict = vamuretu.read_verdict(answer(("audit",), made)[1].decode())
-        self.assertEqual((verdict.run_id, verdict.is_no), (header.run_id, False))
+        decided = json.loads(answer(("decide", "--json"), four.scenario())[1])["decisions"]
+        self.assertEqual(orders, {it["general"]: it["order"] for it in decided})
+        verdict = json.loads(answer(("audit", "--json"), made)[1])
+        self.assertEqual((verdict["run"], verdict["verdict"]), (header.run_id, "agreed"))
 
     def test_all(self):
         self.check(ALL)

@@ -4,13 +4,13 @@ The work is done by two shared libraries, libsm_embed.so and libsm_node.so, whic
 says where they are looked for, and docs/EMBED.md of the sources what each call does.
 """
 
-from ._faults import EqualRoots, InputFault, LibraryMissing, Misuse, NodeFault, NoWalk, OtherRun
+from ._faults import EqualRoots, InputFault, LibraryMissing, Misuse, Nobody, NodeFault, NoWalk, OtherRun
 from ._headers import Header, header, read_header
 from ._jobs import Evidence, accuse, audit, audit_json, decide, decide_json, draw, evidence, evidence_json, explain
 from ._jobs import plan, refute, run_ids, show, show_json, words
 from ._libraries import use_libraries, version
 from ._nodes import FrameHead, Keys, Node, bundle, frame_head, root
-from ._texts import (
+from ._verdicts import (
     AcrossConviction,
     CampaignVerdict,
     Conviction,
@@ -19,9 +19,8 @@ from ._texts import (
     Judgement,
     Kind,
     RunDecision,
+    Status,
     Verdict,
-    read_decisions,
-    read_verdict,
 )
 
 __all__ = [
@@ -41,10 +40,12 @@ __all__ = [
     "LibraryMissing",
     "Misuse",
     "NoWalk",
+    "Nobody",
     "Node",
     "NodeFault",
     "OtherRun",
     "RunDecision",
+    "Status",
     "Verdict",
     "accuse",
     "audit",
@@ -59,9 +60,7 @@ __all__ = [
     "frame_head",
     "header",
     "plan",
-    "read_decisions",
     "read_header",
-    "read_verdict",
     "refute",
     "root",
     "run_ids",

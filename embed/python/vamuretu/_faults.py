@@ -153,5 +153,9 @@ class Misuse(RuntimeError):
     """
 
 
+class Nobody(Misuse):
+    """The node (general) that is to be accused is none of the run's."""
+
+
 class LibraryMissing(OSError):
     """A shared library is not where it is looked for, is not one of these libraries, or has another version."""

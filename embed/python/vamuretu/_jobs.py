@@ -2,13 +2,15 @@
 
 from __future__ import annotations
 
+import ctypes
+import json
 from dataclasses import dataclass
-from typing import Iterable, Optional, Tuple, Union
+from typing import Any, Iterable, Optional, Tuple, Union
 
-from ._faults import InputFault, Misuse, OtherRun
+from ._faults import InputFault, Misuse, Nobody, OtherRun
 from ._headers import Header, after_mark
-from ._libraries import JOBS, Bytes, as_bytes, exactly, held, library, number, written
-from ._texts import Judgement, RunDecision, read_decisions, read_verdict
+from ._libraries import JOBS, Bytes, Options, as_bytes, exactly, held, library, number
+from ._verdicts import Judgement, RunDecision, decisions_of, judgement_of
 
 YES, NO, MISUSE, FAULT, MEMORY = range(5)
 NOBODY, OTHER_RUN = 6, 7
@@ -47,17 +49,16 @@ def _checked(job: str, status: int, text: bytes) -> Tuple[bool, bytes]:
     if status == MEMORY:
         raise MemoryError(f"sm_{job}: memory was refused")
     if status == NOBODY:
-        raise Misuse(f"sm_{job}: the general is none of the run's")
+        raise Nobody(f"sm_{job}: the general is none of the run's")
     if status not in (YES, NO):
         raise Misuse(f"sm_{job}: the call is not allowed here")
     return status == NO, text
 
 
-def _made(job: str, given: Bytes, *before: Union[bytes, int], log: Optional[Bytes] = None) -> Tuple[bool, bytes]:
-    """The answer of a job that the library keeps until it is read. One job takes a log too."""
+def _made(job: str, given: Bytes, *behind: Any, general: Tuple[int, ...] = ()) -> Tuple[bool, bytes]:
+    """The answer of a job on an input. Options or a second input stand behind the input, and a general before it."""
     data, function = as_bytes(given), getattr(library(JOBS), f"sm_{job}")
-    behind = () if log is None else (as_bytes(log), len(as_bytes(log)))
-    return _checked(job, *held(JOBS, lambda answer: int(function(*before, data, len(data), *behind, answer))))
+    return _checked(job, *held(JOBS, lambda answer: int(function(*general, data, len(data), *behind, answer))))
 
 
 def _run_id(given: RunId) -> bytes:
@@ -68,17 +69,22 @@ def _run_id(given: RunId) -> bytes:
         raise Misuse(f"{given!r} is no run id") from None
 
 
-def _expected(runs: Optional[Iterable[RunId]]) -> Tuple[bytes, int]:
-    """The run ids that are expected, one after another, and how many there are: of None none, so any run is taken."""
+def _options(runs: Optional[Iterable[RunId]] = None, form: int = TEXT) -> Any:
+    """The options with the run ids that are expected, of None none, so any run is taken, and with a form."""
     if runs is None:
-        return b"", 0
+        return ctypes.byref(Options(b"", 0, 0, form))
     # A text is no list of run ids. The library takes any run for an empty list, which a caller may have by mistake.
     if isinstance(runs, (str, bytes, bytearray, memoryview)):
         raise Misuse("runs is a list of run ids, and not one of them")
     ids = [_run_id(it) for it in runs]
     if not 1 <= len(ids) <= RUNS_MOST:
         raise Misuse(f"{len(ids)} runs are expected, and not 1 to {RUNS_MOST}: for any run leave runs out")
-    return b"".join(ids), len(ids)
+    return ctypes.byref(Options(b"".join(ids), len(ids), 0, form))
+
+
+def _of_one(run: Optional[RunId]) -> Optional[Tuple[RunId]]:
+    """The list of the run id that is expected, if there is one."""
+    return None if run is None else (run,)
 
 
 def audit(given: Bytes, *, runs: Optional[Iterable[RunId]] = None) -> Judgement:
@@ -87,28 +93,26 @@ def audit(given: Bytes, *, runs: Optional[Iterable[RunId]] = None) -> Judgement:
     With `runs`, the input must be of these runs: of a campaign those of all its runs in their order. If it is of others,
     OtherRun is raised. Without `runs` an input of any run is judged, and an empty list is Misuse.
     """
-    return read_verdict(_made("audit_of", given, *_expected(runs), 0)[1].decode("ascii"))
+    return judgement_of(json.loads(audit_json(given, runs=runs)))
 
 
 def audit_json(given: Bytes, *, runs: Optional[Iterable[RunId]] = None) -> str:
     """The verdict as one line with a JSON object, as `sm_tool audit --json` writes it. `runs` is as of `audit`."""
-    return _made("audit_as", given, *_expected(runs), 0, JSON)[1].decode("ascii")
+    return _made("audit", given, _options(runs, JSON))[1].decode("ascii")
 
 
 def draw(given: Bytes, *, runs: Optional[Iterable[RunId]] = None) -> str:
     """The picture of a bundle or a campaign and of the verdict on it, an SVG text. `runs` is as of `audit`."""
-    return _made("draw_of", given, *_expected(runs))[1].decode("ascii")
+    return _made("draw", given, _options(runs))[1].decode("ascii")
 
 
-def accuse(
-    general: int, given: Bytes, *, known: bool = False, runs: Optional[Iterable[RunId]] = None
-) -> Optional[bytes]:
-    """The evidence against a node (general) that a bundle or a campaign holds, or None. Misuse for one above 15.
+def accuse(general: int, given: Bytes, *, runs: Optional[Iterable[RunId]] = None) -> Optional[bytes]:
+    """The evidence against a node (general) that a bundle or a campaign holds, or None.
 
-    With `known`, a node that is none of the run's is Misuse too, and not None. `runs` is as of `audit`.
+    Misuse for a node above 15, and Nobody, which is a Misuse, for another that is none of the run's. `runs` is as of
+    `audit`, and is compared first.
     """
-    accused = number(general, 16, "general")
-    is_no, data = _made("accuse_known_of" if known else "accuse_of", given, *_expected(runs), accused)
+    is_no, data = _made("accuse", given, _options(runs), general=(number(general, 16, "general"),))
     return None if is_no else data
 
 
@@ -119,14 +123,15 @@ def refute(given: Bytes, log: Bytes) -> Optional[str]:
     strings of bytes with one hash. A node that followed the algorithm has one to evidence of a run by its log of that
     run, and to evidence across two runs by its log of the first. InputFault is of the evidence, or else of the log.
     """
-    is_no, text = _made("refute_kept", given, log=log)
+    other = as_bytes(log)
+    is_no, text = _made("refute", given, other, len(other))
     return None if is_no else text.decode("ascii")
 
 
 def evidence(given: Bytes, *, run: Optional[RunId] = None) -> Evidence:
     """What evidence says, and whether it holds. With `run`, OtherRun is raised if its header is that of another run."""
     data = as_bytes(given)
-    is_no, _ = _made("evidence_of", data, *_expected(None if run is None else (run,)))
+    is_no, _ = _made("evidence", data, _options(_of_one(run)))
     of_run = after_mark(data, MARK_BYTES)
     at = MARK_BYTES + len(of_run.data)
     other = after_mark(data, at + 2) if data[at + 1] == ACROSS else None
@@ -137,29 +142,27 @@ def evidence_json(given: Bytes, *, run: Optional[RunId] = None) -> str:
     """What evidence says, and whether it holds, as one line with a JSON object, as `sm_tool evidence --json` writes it.
     `run` is as of `evidence`.
     """
-    expected = _expected(None if run is None else (run,))
-    return _made("evidence_as", given, *expected, JSON)[1].decode("ascii")
+    return _made("evidence", given, _options(_of_one(run), JSON))[1].decode("ascii")
 
 
 def decide(scenario: Bytes) -> Tuple[RunDecision, ...]:
     """What each node (general) without a script decides in the run of a scenario's text, ascending."""
-    return read_decisions(_made("decide_as", scenario, TEXT)[1].decode("ascii"))
+    return decisions_of(json.loads(decide_json(scenario)))
 
 
 def decide_json(scenario: Bytes) -> str:
     """The same as one line with a JSON object, as `sm_tool decide --json` writes it."""
-    return _made("decide_as", scenario, JSON)[1].decode("ascii")
+    return _made("decide", scenario, _options(None, JSON))[1].decode("ascii")
 
 
 def run_ids(given: Bytes) -> Tuple[str, ...]:
     """The ids of the runs that a file is of, in hexadecimal digits: one of a header, of a bundle or of evidence, and of a
     campaign those of its runs in their order. InputFault if the input is no whole file of one of these kinds.
     """
-    data, function = as_bytes(given), library(JOBS).sm_run_id
-    status, ids = written(lambda *ends: int(function(data, len(data), *ends)), RUN_ID_BYTES * RUNS_MOST)
-    if status == FAULT:
-        raise InputFault("the input is no whole header, bundle, campaign or evidence")
-    _checked("run_id", status, ids)
+    try:
+        _, ids = _made("run_id", given)
+    except InputFault:
+        raise InputFault("the input is no whole header, bundle, campaign or evidence") from None
     return tuple(ids[at : at + RUN_ID_BYTES].hex() for at in range(0, len(ids), RUN_ID_BYTES))
 
 
@@ -168,13 +171,13 @@ def show(given: Bytes, *, runs: Optional[Iterable[RunId]] = None) -> Tuple[bool,
 
     `runs` is as of `audit`. With it a file that is not whole is OtherRun too, as nothing says of which run it is.
     """
-    is_no, text = _made("show_as", given, *_expected(runs), TEXT)
+    is_no, text = _made("show", given, _options(runs))
     return not is_no, text.decode("ascii")
 
 
 def show_json(given: Bytes, *, runs: Optional[Iterable[RunId]] = None) -> Tuple[bool, str]:
     """The same as lines with a JSON object each, as `sm_tool show --json` writes them. `runs` is as of `show`."""
-    is_no, text = _made("show_as", given, *_expected(runs), JSON)
+    is_no, text = _made("show", given, _options(runs, JSON))
     return not is_no, text.decode("ascii")
 
 

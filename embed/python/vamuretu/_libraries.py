@@ -22,6 +22,20 @@ Bytes = Union[bytes, bytearray, memoryview]
 Call = Callable[[Any, int, Any], int]
 
 
+class Options(ctypes.Structure):
+    """`sm_options`."""
+
+    _fields_ = [("runs", c_char_p), ("run_count", c_size_t), ("strict", c_uint32), ("form", c_uint32)]
+
+
+class Fact(ctypes.Structure):
+    """`sm_fact`."""
+
+    _names = ("kind", "run", "general", "other", "number", "order", "round", "log_fault", "chain_fault")
+    _fields_ = [(name, c_uint32) for name in (*_names, "generals", "traitors", "set")]
+    _fields_ += [("entry", ctypes.c_uint64), ("run_id", ctypes.c_uint8 * 32)]
+
+
 class Numbers(ctypes.Structure):
     """`sm_numbers`."""
 
@@ -54,31 +68,22 @@ _WRITTEN: List[Any] = [c_char_p, c_size_t, POINTER(c_size_t)]
 _FAULT: List[Any] = [POINTER(c_uint32)]
 _NODE: List[Any] = [c_void_p]
 _ANSWER: List[Any] = [POINTER(c_void_p)]
+_ASKED: List[Any] = [POINTER(Options)] + _ANSWER
 _ENDS: Dict[str, Dict[str, List[Any]]] = {
     JOBS: {
-        "sm_audit": _READ + _WRITTEN,
-        "sm_draw": _READ + _WRITTEN,
-        "sm_accuse": [c_uint32] + _READ + _WRITTEN,
-        "sm_evidence": _READ + _WRITTEN,
-        "sm_decide": _READ + _WRITTEN,
-        "sm_accuse_known": [c_uint32] + _READ + _WRITTEN,
-        "sm_refute": _READ + _READ + _WRITTEN,
-        "sm_run_id": _READ + _WRITTEN,
-        "sm_audit_of": _READ + [c_uint32] + _READ + _ANSWER,
-        "sm_draw_of": _READ + _READ + _ANSWER,
-        "sm_accuse_of": _READ + [c_uint32] + _READ + _ANSWER,
-        "sm_evidence_of": _READ + _READ + _ANSWER,
-        "sm_accuse_known_of": _READ + [c_uint32] + _READ + _ANSWER,
-        "sm_refute_kept": _READ + _READ + _ANSWER,
-        "sm_audit_as": _READ + [c_uint32, c_uint32] + _READ + _ANSWER,
-        "sm_evidence_as": _READ + [c_uint32] + _READ + _ANSWER,
-        "sm_decide_as": [c_uint32] + _READ + _ANSWER,
-        "sm_show": _READ + _ANSWER,
-        "sm_show_as": _READ + [c_uint32] + _READ + _ANSWER,
+        "sm_audit": _READ + _ASKED,
+        "sm_draw": _READ + _ASKED,
+        "sm_accuse": [c_uint32] + _READ + _ASKED,
+        "sm_evidence": _READ + _ASKED,
+        "sm_decide": _READ + _ASKED,
+        "sm_show": _READ + _ASKED,
+        "sm_refute": _READ + _READ + _ANSWER,
         "sm_explain": _READ + _ANSWER,
         "sm_words": _READ + _ANSWER,
         "sm_plan": _READ + _ANSWER,
+        "sm_run_id": _READ + _ANSWER,
         "sm_answer_text": _ANSWER + _WRITTEN,
+        "sm_answer_facts": _ANSWER + [POINTER(Fact), c_size_t, POINTER(c_size_t)],
         "sm_answer_free": _ANSWER,
         "sm_version": [],
     },

@@ -28,10 +28,10 @@ fn answer(words: &[&str], input: &[u8]) -> Result<(u8, Vec<u8>), Fault> {
         ["decide"] => (0, decide(input)?.into_bytes()),
         ["evidence"] if evidence(input)? => (0, b"evidence holds\n".to_vec()),
         ["evidence"] => (1, b"evidence fails\n".to_vec()),
-        ["accuse", general] => {
-            let found = accuse(general.parse().map_err(|_| Fault::Misuse)?, input)?;
-            (u8::from(found.is_none()), found.unwrap_or_default())
-        }
+        ["accuse", general] => match accuse(general.parse().map_err(|_| Fault::Misuse)?, input) {
+            Err(Fault::Nobody) => (1, vec![]),
+            found => found?.map_or((1, vec![]), |bytes| (0, bytes)),
+        },
         _ => return Err(Fault::Misuse),
     })
 }

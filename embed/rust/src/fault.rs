@@ -11,6 +11,8 @@ pub enum Fault {
     Input(String),
     /// The input of a job is of another run than the one that is expected.
     OtherRun,
+    /// The node (general) of [`accuse`](crate::accuse) is none of the run's.
+    Nobody,
     /// What was handed to a call on nodes, headers or bundles has a fault.
     Node(NodeFault),
     /// Two nodes of a header have the same root, the lesser one first. No lesser pair has.
@@ -18,9 +20,8 @@ pub enum Fault {
     /// Two nodes that are not held for faulty have no walk ([`NodeFault::U1`]), or none of at most d edges
     /// ([`NodeFault::U2`]), the lesser one first. No lesser pair has.
     NoWalk(NodeFault, u32, u32),
-    /// The call is not allowed here, or a number is out of its range: the calling program has a mistake. Of
-    /// [`accuse_known`](crate::accuse_known) the general may also be none of the run's, and of
-    /// [`Node::hear`](crate::Node::hear) the frame may have come after the node ended.
+    /// The call is not allowed here, or a number is out of its range: the calling program has a mistake, but for a frame
+    /// that came to [`Node::hear`](crate::Node::hear) after the node ended.
     Misuse,
     /// Memory was refused. The same call may be made again; it continues a round that is half begun or half ended.
     Memory,
@@ -124,6 +125,7 @@ impl fmt::Display for Fault {
             Fault::Node(fault) => write!(to, "{fault}"),
             Fault::EqualRoots(first, second) => write!(to, "fault G2 generals {first} {second}"),
             Fault::NoWalk(fault, first, second) => write!(to, "{fault}: {first} and {second}"),
+            Fault::Nobody => write!(to, "the general is none of the run's"),
             Fault::Misuse => write!(to, "the call is not allowed here"),
             Fault::Memory => write!(to, "memory was refused"),
         }

@@ -1,9 +1,7 @@
 //! What `sm_tool` does over bytes.
 
-use std::mem::size_of;
-
-use crate::raw::{self, held, written, SmAnswer};
-use crate::texts::{read_decisions, Judgement, RunDecision};
+use crate::raw::{self, Held, SmAnswer, SmOptions};
+use crate::verdicts::{Judgement, RunDecision};
 use crate::Fault;
 
 /// The forms of an answer.
@@ -11,6 +9,8 @@ const TEXT: u32 = 0;
 const JSON: u32 = 1;
 /// The number of the version that both archives tell, as `SM_VERSION_NUMBER` of `sm_status.h`.
 const VERSION_NUMBER: u32 = 2000;
+/// What the bytes of a campaign begin with.
+const CAMPAIGN: &[u8] = b"SMC2";
 
 /// An answer in words, which is a no or not.
 #[derive(Debug, Clone, PartialEq, Eq)]
@@ -40,23 +40,50 @@ fn text_of(bytes: Vec<u8>) -> String {
     String::from_utf8(bytes).unwrap_or_else(|told| String::from_utf8_lossy(told.as_bytes()).into_owned())
 }
 
-/// The end of a job, by its status and the bytes that it wrote: whether it is a no, and the bytes.
-fn ended((status, bytes): (u32, Vec<u8>)) -> Result<(bool, Vec<u8>), Fault> {
+/// The id of a run.
+pub type RunId = [u8; 32];
+
+/// A job that takes an input and options, and one that takes an input.
+type Asking = unsafe extern "C" fn(*const u8, usize, *const SmOptions, *mut SmAnswer) -> u32;
+type Telling = unsafe extern "C" fn(*const u8, usize, *mut SmAnswer) -> u32;
+
+/// The end of a job: whether it is a no, and what is held.
+fn ended((status, mut held): (u32, Held)) -> Result<(bool, Held), Fault> {
     match status {
-        raw::OK | raw::NO => Ok((status == raw::NO, bytes)),
-        raw::FAULT => Err(Fault::Input(text_of(bytes))),
+        raw::OK | raw::NO => Ok((status == raw::NO, held)),
+        raw::FAULT => Err(Fault::Input(text_of(held.text()))),
         raw::OTHER => Err(Fault::OtherRun),
+        raw::NOBODY => Err(Fault::Nobody),
         raw::MEMORY => Err(Fault::Memory),
         _ => Err(Fault::Misuse),
     }
 }
 
-/// The id of a run.
-pub type RunId = [u8; 32];
+/// The answer in words of a job that has ended.
+fn in_words((is_no, mut held): (bool, Held)) -> Answer {
+    let text = text_of(held.text());
+    if is_no {
+        Answer::No(text)
+    } else {
+        Answer::Yes(text)
+    }
+}
 
-/// Does a job whose answer the library keeps until it is read.
-fn kept(job: impl FnOnce(*mut SmAnswer) -> u32) -> Result<(bool, Vec<u8>), Fault> {
-    ended(held(job))
+/// The options of a call. The ids outlive them.
+fn options(runs: &[RunId], strict: bool, form: u32) -> SmOptions {
+    SmOptions { runs: runs.as_ptr().cast(), run_count: runs.len(), strict: u32::from(strict), form }
+}
+
+/// Does a job on an input, by options.
+fn asked(job: Asking, options: &SmOptions, input: &[u8]) -> Result<(bool, Held), Fault> {
+    // SAFETY: the pointers are of pieces of memory of these lengths that do not overlap, and nobody else has the answer.
+    ended(Held::by(|answer| unsafe { job(input.as_ptr(), input.len(), options, answer) }))
+}
+
+/// Does a job on an input.
+fn told(job: Telling, input: &[u8]) -> Result<(bool, Held), Fault> {
+    // SAFETY: as in `asked`.
+    ended(Held::by(|answer| unsafe { job(input.as_ptr(), input.len(), answer) }))
 }
 
 /// The verdict on a bundle or a campaign, as `sm_tool audit` writes it. It is a no if and only if the verdict on the
@@ -70,26 +97,18 @@ pub fn audit(input: &[u8]) -> Result<Answer, Fault> {
 /// asked strictly, `explained` is a no too, and so are two nodes (generals) with the same root, whom the text names.
 /// [`Fault::OtherRun`] for other runs, [`Fault::Misuse`] for more than four ids.
 pub fn audit_of(runs: &[RunId], strict: bool, input: &[u8]) -> Result<Answer, Fault> {
-    // SAFETY: the pointers are of pieces of memory of these lengths that do not overlap, and nobody else has the answer.
-    let (is_no, text) = kept(|answer| unsafe {
-        raw::sm_audit_of(runs.as_ptr().cast(), runs.len(), u32::from(strict), input.as_ptr(), input.len(), answer)
-    })?;
-    Ok(if is_no { Answer::No(text_of(text)) } else { Answer::Yes(text_of(text)) })
+    asked(raw::sm_audit, &options(runs, strict, TEXT), input).map(in_words)
 }
 
 /// The verdict on a bundle or a campaign of the runs with these ids, in its parts. `runs` is as of [`audit_of`].
-/// [`Fault::Misuse`] too if the text of the verdict does not read, which the library never writes.
 pub fn judge(runs: &[RunId], input: &[u8]) -> Result<Judgement, Fault> {
-    Judgement::read(audit_of(runs, false, input)?.text()).ok_or(Fault::Misuse)
+    let (_, mut held) = asked(raw::sm_audit, &options(runs, false, TEXT), input)?;
+    Judgement::of(&held.facts(), input.starts_with(CAMPAIGN)).ok_or(Fault::Misuse)
 }
 
 /// The verdict as one line with a JSON object, as `sm_tool audit --json` writes it. `runs` is as of [`audit_of`].
 pub fn audit_json(runs: &[RunId], input: &[u8]) -> Result<String, Fault> {
-    // SAFETY: as in `audit_of`.
-    let (_, text) = kept(|answer| unsafe {
-        raw::sm_audit_as(runs.as_ptr().cast(), runs.len(), 0, JSON, input.as_ptr(), input.len(), answer)
-    })?;
-    Ok(text_of(text))
+    asked(raw::sm_audit, &options(runs, false, JSON), input).map(|(_, mut held)| text_of(held.text()))
 }
 
 /// The picture of a bundle or a campaign and of the verdict on it, an SVG text.
@@ -99,33 +118,23 @@ pub fn draw(input: &[u8]) -> Result<String, Fault> {
 
 /// The picture, as [`draw`], of the runs with these ids. Faults are those of [`audit_of`].
 pub fn draw_of(runs: &[RunId], input: &[u8]) -> Result<String, Fault> {
-    // SAFETY: as in `audit_of`.
-    let (_, text) = kept(|answer| unsafe {
-        raw::sm_draw_of(runs.as_ptr().cast(), runs.len(), input.as_ptr(), input.len(), answer)
-    })?;
-    Ok(text_of(text))
+    asked(raw::sm_draw, &options(runs, false, TEXT), input).map(|(_, mut held)| text_of(held.text()))
 }
 
 /// What the nodes (generals) decide in the run of a scenario's text, as `sm_tool decide` writes it.
 pub fn decide(scenario: &[u8]) -> Result<String, Fault> {
-    decide_as(TEXT, scenario)
+    asked(raw::sm_decide, &options(&[], false, TEXT), scenario).map(|(_, mut held)| text_of(held.text()))
 }
 
 /// The same as one line with a JSON object, as `sm_tool decide --json` writes it.
 pub fn decide_json(scenario: &[u8]) -> Result<String, Fault> {
-    decide_as(JSON, scenario)
+    asked(raw::sm_decide, &options(&[], false, JSON), scenario).map(|(_, mut held)| text_of(held.text()))
 }
 
-/// The same in its parts. [`Fault::Misuse`] if the text does not read, which the library never writes.
+/// The same in its parts.
 pub fn decisions(scenario: &[u8]) -> Result<Vec<RunDecision>, Fault> {
-    read_decisions(&decide(scenario)?).ok_or(Fault::Misuse)
-}
-
-/// The decisions in a form.
-fn decide_as(form: u32, scenario: &[u8]) -> Result<String, Fault> {
-    // SAFETY: as in `audit_of`.
-    let (_, text) = kept(|answer| unsafe { raw::sm_decide_as(form, scenario.as_ptr(), scenario.len(), answer) })?;
-    Ok(text_of(text))
+    let (_, mut held) = asked(raw::sm_decide, &options(&[], false, TEXT), scenario)?;
+    Ok(held.facts().iter().map(RunDecision::of).collect())
 }
 
 /// Whether evidence holds.
@@ -136,53 +145,40 @@ pub fn evidence(input: &[u8]) -> Result<bool, Fault> {
 /// Whether evidence holds, which is of the run with this id; of any if there is none. [`Fault::OtherRun`] if its header
 /// is that of another run.
 pub fn evidence_of(run: Option<&RunId>, input: &[u8]) -> Result<bool, Fault> {
-    let runs: &[RunId] = run.map_or(&[], std::slice::from_ref);
-    // SAFETY: as in `audit_of`.
-    let (is_no, _) = kept(|answer| unsafe {
-        raw::sm_evidence_of(runs.as_ptr().cast(), runs.len(), input.as_ptr(), input.len(), answer)
-    })?;
-    Ok(!is_no)
+    let runs = run.map_or(&[][..], std::slice::from_ref);
+    asked(raw::sm_evidence, &options(runs, false, TEXT), input).map(|(is_no, _)| !is_no)
 }
 
 /// What evidence says, and whether it holds, as one line with a JSON object, as `sm_tool evidence --json` writes it.
 /// `run` is as of [`evidence_of`].
 pub fn evidence_json(run: Option<&RunId>, input: &[u8]) -> Result<String, Fault> {
-    let runs: &[RunId] = run.map_or(&[], std::slice::from_ref);
-    // SAFETY: as in `audit_of`.
-    let (_, text) = kept(|answer| unsafe {
-        raw::sm_evidence_as(runs.as_ptr().cast(), runs.len(), JSON, input.as_ptr(), input.len(), answer)
-    })?;
-    Ok(text_of(text))
+    let runs = run.map_or(&[][..], std::slice::from_ref);
+    asked(raw::sm_evidence, &options(runs, false, JSON), input).map(|(_, mut held)| text_of(held.text()))
 }
 
 /// The evidence against a node (general) that a bundle or a campaign holds, if there is any. [`Fault::Misuse`] for a
-/// general above 15.
+/// general above 15, and [`Fault::Nobody`] for another that is none of the run's.
 pub fn accuse(general: u32, input: &[u8]) -> Result<Option<Vec<u8>>, Fault> {
     accuse_of(&[], general, input)
 }
 
-/// The evidence, as [`accuse`], of the runs with these ids. Faults are those of [`audit_of`] too.
+/// The evidence, as [`accuse`], of the runs with these ids, which are compared first. Faults are those of [`audit_of`]
+/// too.
 pub fn accuse_of(runs: &[RunId], general: u32, input: &[u8]) -> Result<Option<Vec<u8>>, Fault> {
-    // SAFETY: as in `audit_of`.
-    let (is_no, bytes) = kept(|answer| unsafe {
-        raw::sm_accuse_of(runs.as_ptr().cast(), runs.len(), general, input.as_ptr(), input.len(), answer)
-    })?;
-    Ok((!is_no).then_some(bytes))
+    let given = options(runs, false, TEXT);
+    // SAFETY: as in `asked`.
+    let call = |answer| unsafe { raw::sm_accuse(general, input.as_ptr(), input.len(), &given, answer) };
+    let (is_no, mut held) = ended(Held::by(call))?;
+    Ok((!is_no).then(|| held.text()))
 }
 
 /// The ids of the runs that a file is of: one of a header, of a bundle or of evidence, and of a campaign those of its
 /// runs in their order; `None` if the input is no whole file of one of these kinds.
 pub fn run_ids(input: &[u8]) -> Result<Option<Vec<RunId>>, Fault> {
-    // SAFETY: the pointers are of pieces of memory of these lengths that do not overlap, and nobody else has the room
-    // and the count.
-    let (status, ids) = written(4 * size_of::<RunId>(), |room, room_bytes, count| unsafe {
-        raw::sm_run_id(input.as_ptr(), input.len(), room, room_bytes, count)
-    });
-    if status == raw::FAULT {
-        return Ok(None);
+    match told(raw::sm_run_id, input) {
+        Err(Fault::Input(_)) => Ok(None),
+        ids => Ok(Some(ids?.1.text().chunks_exact(32).filter_map(|id| id.try_into().ok()).collect())),
     }
-    let (_, ids) = ended((status, ids))?;
-    Ok(Some(ids.chunks_exact(size_of::<RunId>()).filter_map(|id| id.try_into().ok()).collect()))
 }
 
 /// What a file is, line by line, as `sm_tool show` writes it. It is a no if and only if the file is no whole bundle,
@@ -195,59 +191,32 @@ pub fn show(input: &[u8]) -> Result<Answer, Fault> {
 /// [`Fault::OtherRun`] for other runs, and for a file that is not whole, if there are ids. [`Fault::Misuse`] for more
 /// than four ids.
 pub fn show_of(runs: &[RunId], input: &[u8]) -> Result<Answer, Fault> {
-    show_as(TEXT, runs, input)
+    asked(raw::sm_show, &options(runs, false, TEXT), input).map(in_words)
 }
 
 /// The same as lines with a JSON object each, as `sm_tool show --json` writes them. `runs` is as of [`show_of`].
 pub fn show_json(runs: &[RunId], input: &[u8]) -> Result<Answer, Fault> {
-    show_as(JSON, runs, input)
-}
-
-/// What a file is, in a form.
-fn show_as(form: u32, runs: &[RunId], input: &[u8]) -> Result<Answer, Fault> {
-    // SAFETY: as in `audit_of`.
-    let (is_no, text) = kept(|answer| unsafe {
-        raw::sm_show_as(runs.as_ptr().cast(), runs.len(), form, input.as_ptr(), input.len(), answer)
-    })?;
-    Ok(if is_no { Answer::No(text_of(text)) } else { Answer::Yes(text_of(text)) })
+    asked(raw::sm_show, &options(runs, false, JSON), input).map(in_words)
 }
 
 /// What a name means that stands in an answer, as `sm_tool explain` writes it, if it is one: that of a fault, a finding,
 /// a kind of conviction or a verdict. Of a line as `fault B3 H6` each name is explained. The empty name has all names, a
 /// line each.
 pub fn explain(name: &str) -> Result<Option<String>, Fault> {
-    // SAFETY: as in `audit_of`.
-    let (is_no, text) = kept(|answer| unsafe { raw::sm_explain(name.as_ptr(), name.len(), answer) })?;
-    Ok((!is_no).then(|| text_of(text)))
+    let (is_no, mut held) = told(raw::sm_explain, name.as_bytes())?;
+    Ok((!is_no).then(|| text_of(held.text())))
 }
 
 /// A text with what each of its lines means behind the line, as `sm_tool words` writes it. A line without a line feed
 /// gets nothing.
 pub fn words(text: &[u8]) -> Result<Vec<u8>, Fault> {
-    // SAFETY: as in `audit_of`.
-    kept(|answer| unsafe { raw::sm_words(text.as_ptr(), text.len(), answer) }).map(|(_, bytes)| bytes)
+    told(raw::sm_words, text).map(|(_, mut held)| held.text())
 }
 
 /// Whether the plan of a header holds, and the text on it, as `sm_tool plan` writes it: of a header, its text for version
 /// 1, a bundle or a campaign, of which the first header is taken. A plan that fails is a no.
 pub fn plan(input: &[u8]) -> Result<Answer, Fault> {
-    // SAFETY: as in `audit_of`.
-    let (is_no, text) = kept(|answer| unsafe { raw::sm_plan(input.as_ptr(), input.len(), answer) })?;
-    Ok(if is_no { Answer::No(text_of(text)) } else { Answer::Yes(text_of(text)) })
-}
-
-/// The evidence against a node (general), as [`accuse`], but [`Fault::Misuse`] too for one that is none of the run's.
-pub fn accuse_known(general: u32, input: &[u8]) -> Result<Option<Vec<u8>>, Fault> {
-    accuse_known_of(&[], general, input)
-}
-
-/// The evidence, as [`accuse_known`], of the runs with these ids. Faults are those of [`audit_of`] too.
-pub fn accuse_known_of(runs: &[RunId], general: u32, input: &[u8]) -> Result<Option<Vec<u8>>, Fault> {
-    // SAFETY: as in `audit_of`.
-    let (is_no, bytes) = kept(|answer| unsafe {
-        raw::sm_accuse_known_of(runs.as_ptr().cast(), runs.len(), general, input.as_ptr(), input.len(), answer)
-    })?;
-    Ok((!is_no).then_some(bytes))
+    told(raw::sm_plan, input).map(in_words)
 }
 
 /// The answer of an accused node (general) to evidence, by the log that the node kept, if there is one. It is a line:
@@ -255,11 +224,11 @@ pub fn accuse_known_of(runs: &[RunId], general: u32, input: &[u8]) -> Result<Opt
 /// hash. A node that followed the algorithm has an answer to evidence of a run by its log of that run, and to evidence
 /// across two runs by its log of the first.
 pub fn refute(evidence: &[u8], log: &[u8]) -> Result<Option<String>, Fault> {
-    // SAFETY: as in `audit_of`.
-    let (is_no, text) = kept(|answer| unsafe {
-        raw::sm_refute_kept(evidence.as_ptr(), evidence.len(), log.as_ptr(), log.len(), answer)
-    })?;
-    Ok((!is_no).then(|| text_of(text)))
+    let (at, length) = (evidence.as_ptr(), evidence.len());
+    // SAFETY: as in `asked`.
+    let call = |answer| unsafe { raw::sm_refute(at, length, log.as_ptr(), log.len(), answer) };
+    let (is_no, mut held) = ended(Held::by(call))?;
+    Ok((!is_no).then(|| text_of(held.text())))
 }
 
 /// The version of the archives, as `0.2.0`: that of `sm_embed`, which is that of both if
@@ -280,6 +249,7 @@ pub fn versions_match() -> bool {
 #[cfg(test)]
 mod tests {
     use super::*;
+    use crate::{Conviction, Said, Status, Verdicts};
 
     const SPLIT: &[u8] = include_bytes!("../../../examples/split.bundle");
     const DISPUTED: &[u8] = include_bytes!("../../../examples/disputed.bundle");
@@ -303,8 +273,7 @@ mod tests {
         *bent.last_mut().expect("a byte") ^= 1;
         assert_eq!(evidence(&bent), Ok(false));
         assert_eq!(accuse(1, SPLIT), Ok(None));
-        assert_eq!((accuse(3, SPLIT), accuse_known(3, SPLIT)), (Ok(None), Err(Fault::Misuse)));
-        assert_eq!((accuse_known(0, SPLIT), accuse_known(1, SPLIT)), (accuse(0, SPLIT), Ok(None)));
+        assert_eq!((accuse(3, SPLIT), accuse(15, SPLIT)), (Err(Fault::Nobody), Err(Fault::Nobody)));
         assert_eq!(
             refute(include_bytes!("../../../examples/split.evidence"), b""),
             Err(Fault::Input("fault L1".into()))
@@ -330,9 +299,8 @@ mod tests {
         }
         assert_eq!(evidence_of(Some(&[0; 32]), found), Err(Fault::OtherRun));
         assert_eq!(audit_of(&[own[0]; 5], false, SPLIT), Err(Fault::Misuse));
-        assert_eq!((accuse_known_of(&own, 0, SPLIT), accuse_known_of(&own, 1, SPLIT)), (accuse(0, SPLIT), Ok(None)));
-        assert_eq!(accuse_known_of(&own, 3, SPLIT), Err(Fault::Misuse));
-        assert_eq!(accuse_known_of(&[[0; 32]], 3, SPLIT), Err(Fault::OtherRun));
+        assert_eq!((accuse_of(&own, 1, SPLIT), accuse_of(&own, 3, SPLIT)), (Ok(None), Err(Fault::Nobody)));
+        assert_eq!(accuse_of(&[[0; 32]], 3, SPLIT), Err(Fault::OtherRun));
     }
 
     #[test]
@@ -351,6 +319,22 @@ mod tests {
         }
         assert_eq!(audit_json(&[[0; 32]], SPLIT), Err(Fault::OtherRun));
         assert_eq!(evidence_json(Some(&[0; 32]), found), Err(Fault::OtherRun));
+    }
+
+    #[test]
+    fn facts() {
+        let split = judge(&[], SPLIT).expect("a verdict");
+        let [verdict] = split.runs() else { panic!("one run") };
+        assert_eq!((&verdict.said, split.is_no(), split.is_agreed()), (&Said::Agreed(0), false, true));
+        assert_eq!((verdict.generals, verdict.traitors, &verdict.faulty[..]), (3, 1, &[0][..]));
+        assert_eq!(verdict.convictions, [Conviction { general: 0, kind: 2 }]);
+        assert_eq!(verdict.statuses, [Status::Convicted, Status::Trusted, Status::Trusted]);
+        let disputed = judge(&[], DISPUTED).expect("a verdict");
+        assert!(disputed.is_no() && matches!(&disputed.runs()[0].said, Said::No(found) if !found.is_empty()));
+        let series = judge(&[], include_bytes!("../../../examples/series.bundles")).expect("a verdict");
+        assert!(matches!(&series.verdicts, Verdicts::Campaign(runs, _) if runs.len() == 4));
+        let own = run_ids(SPLIT).expect("memory").expect("a bundle");
+        assert_eq!((judge(&own, SPLIT), judge(&[[0; 32]], SPLIT)), (Ok(split), Err(Fault::OtherRun)));
     }
 
     #[test]
@@ -417,7 +401,8 @@ mod tests {
             "SM_OTHER = 7",
         ];
         assert!(names.iter().all(|name| header.contains(name)));
-        assert_eq!((ended((2, vec![])), ended((4, vec![]))), (Err(Fault::Misuse), Err(Fault::Memory)));
+        let ends = [2, 4, 6, 7].map(|status| ended(Held::by(|_| status)).err());
+        assert_eq!(ends, [Fault::Misuse, Fault::Memory, Fault::Nobody, Fault::OtherRun].map(Some));
     }
 
     #[test]

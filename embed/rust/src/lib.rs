@@ -15,16 +15,17 @@ mod header;
 mod jobs;
 mod node;
 mod raw;
-mod texts;
+mod verdicts;
 
 #[cfg(feature = "global-allocator")]
 mod heap;
 
 pub use fault::{Fault, NodeFault};
 pub use header::{Header, Numbers, Root, Seed, Version};
-pub use jobs::{accuse, accuse_known, accuse_known_of, accuse_of, audit, audit_json, audit_of, decide, decide_json};
-pub use jobs::{decisions, draw, draw_of, evidence, evidence_json, evidence_of, explain, judge, refute, run_ids, show};
-pub use jobs::{plan, show_json, show_of, version, versions_match, words, Answer, RunId};
+pub use jobs::{
+    accuse, accuse_of, audit, audit_json, audit_of, decide, decide_json, decisions, draw, draw_of, evidence,
+};
+pub use jobs::{evidence_json, evidence_of, explain, judge, plan, refute, run_ids, show, show_json, show_of, version};
+pub use jobs::{versions_match, words, Answer, RunId};
 pub use node::{Bundle, FrameHead, Keys, Node};
-pub use texts::{read_decisions, Across, Conviction, Decision, Finding, Judgement, RunDecision, Said};
-pub use texts::{Verdict, Verdicts};
+pub use verdicts::{Across, Conviction, Decision, Finding, Judgement, RunDecision, Said, Status, Verdict, Verdicts};

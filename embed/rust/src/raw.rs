@@ -7,8 +7,9 @@ pub const OK: u32 = 0;
 pub const NO: u32 = 1;
 pub const FAULT: u32 = 3;
 pub const MEMORY: u32 = 4;
-/// The room was too short. The count says how many bytes are needed.
+/// The room was too short. The count says how much is needed.
 pub const SHORT: u32 = 5;
+pub const NOBODY: u32 = 6;
 pub const OTHER: u32 = 7;
 /// In place of an order: the node has none.
 pub const NO_ORDER: u32 = 255;
@@ -23,6 +24,35 @@ pub struct SmNode {
 #[repr(C)]
 pub struct SmAnswer {
     pub at: *mut c_void,
+}
+
+/// `sm_options`.
+#[repr(C)]
+pub struct SmOptions {
+    pub runs: *const u8,
+    pub run_count: usize,
+    pub strict: u32,
+    pub form: u32,
+}
+
+/// `sm_fact`.
+#[repr(C)]
+#[derive(Clone, Copy, Default)]
+pub struct SmFact {
+    pub kind: u32,
+    pub run: u32,
+    pub general: u32,
+    pub other: u32,
+    pub number: u32,
+    pub order: u32,
+    pub round: u32,
+    pub log_fault: u32,
+    pub chain_fault: u32,
+    pub generals: u32,
+    pub traitors: u32,
+    pub set: u32,
+    pub entry: u64,
+    pub run_id: [u8; 32],
 }
 
 /// `sm_numbers`.
@@ -62,82 +92,31 @@ pub struct SmLog {
 }
 
 extern "C" {
-    pub fn sm_run_id(input: *const u8, input_bytes: usize, room: *mut u8, room_bytes: usize, count: *mut usize) -> u32;
-    pub fn sm_audit_of(
-        runs: *const u8,
-        run_count: usize,
-        strict: u32,
-        input: *const u8,
-        input_bytes: usize,
-        answer: *mut SmAnswer,
-    ) -> u32;
-    pub fn sm_draw_of(
-        runs: *const u8,
-        run_count: usize,
-        input: *const u8,
-        input_bytes: usize,
-        answer: *mut SmAnswer,
-    ) -> u32;
-    pub fn sm_accuse_of(
-        runs: *const u8,
-        run_count: usize,
+    pub fn sm_audit(input: *const u8, input_bytes: usize, options: *const SmOptions, answer: *mut SmAnswer) -> u32;
+    pub fn sm_draw(input: *const u8, input_bytes: usize, options: *const SmOptions, answer: *mut SmAnswer) -> u32;
+    pub fn sm_evidence(input: *const u8, input_bytes: usize, options: *const SmOptions, answer: *mut SmAnswer) -> u32;
+    pub fn sm_decide(input: *const u8, input_bytes: usize, options: *const SmOptions, answer: *mut SmAnswer) -> u32;
+    pub fn sm_show(input: *const u8, input_bytes: usize, options: *const SmOptions, answer: *mut SmAnswer) -> u32;
+    pub fn sm_accuse(
         general: u32,
         input: *const u8,
         input_bytes: usize,
+        options: *const SmOptions,
         answer: *mut SmAnswer,
     ) -> u32;
-    pub fn sm_evidence_of(
-        runs: *const u8,
-        run_count: usize,
-        input: *const u8,
-        input_bytes: usize,
-        answer: *mut SmAnswer,
-    ) -> u32;
-    pub fn sm_accuse_known_of(
-        runs: *const u8,
-        run_count: usize,
-        general: u32,
-        input: *const u8,
-        input_bytes: usize,
-        answer: *mut SmAnswer,
-    ) -> u32;
-    pub fn sm_refute_kept(
+    pub fn sm_refute(
         evidence: *const u8,
         evidence_bytes: usize,
         log: *const u8,
         log_bytes: usize,
         answer: *mut SmAnswer,
     ) -> u32;
-    pub fn sm_audit_as(
-        runs: *const u8,
-        run_count: usize,
-        strict: u32,
-        form: u32,
-        input: *const u8,
-        input_bytes: usize,
-        answer: *mut SmAnswer,
-    ) -> u32;
-    pub fn sm_evidence_as(
-        runs: *const u8,
-        run_count: usize,
-        form: u32,
-        input: *const u8,
-        input_bytes: usize,
-        answer: *mut SmAnswer,
-    ) -> u32;
-    pub fn sm_decide_as(form: u32, input: *const u8, input_bytes: usize, answer: *mut SmAnswer) -> u32;
-    pub fn sm_show_as(
-        runs: *const u8,
-        run_count: usize,
-        form: u32,
-        input: *const u8,
-        input_bytes: usize,
-        answer: *mut SmAnswer,
-    ) -> u32;
     pub fn sm_explain(input: *const u8, input_bytes: usize, answer: *mut SmAnswer) -> u32;
     pub fn sm_words(input: *const u8, input_bytes: usize, answer: *mut SmAnswer) -> u32;
     pub fn sm_plan(input: *const u8, input_bytes: usize, answer: *mut SmAnswer) -> u32;
+    pub fn sm_run_id(input: *const u8, input_bytes: usize, answer: *mut SmAnswer) -> u32;
     pub fn sm_answer_text(answer: *mut SmAnswer, room: *mut u8, room_bytes: usize, count: *mut usize) -> u32;
+    pub fn sm_answer_facts(answer: *mut SmAnswer, room: *mut SmFact, room_facts: usize, count: *mut usize) -> u32;
     pub fn sm_answer_free(answer: *mut SmAnswer);
     pub fn sm_version() -> u32;
 
@@ -202,10 +181,13 @@ extern "C" {
     ) -> u32;
 }
 
-/// The status of a call, and the bytes that it writes. The call gets a room, its length and the count. It is made again
-/// if the room was too short.
-pub fn written(room_bytes: usize, mut call: impl FnMut(*mut u8, usize, *mut usize) -> u32) -> (u32, Vec<u8>) {
-    let mut room = vec![0; room_bytes];
+/// The status of a call, and what it writes. The call gets a room, its length and the count. It is made again if the room
+/// was too short.
+pub fn written<T: Clone + Default>(
+    length: usize,
+    mut call: impl FnMut(*mut T, usize, *mut usize) -> u32,
+) -> (u32, Vec<T>) {
+    let mut room = vec![T::default(); length];
     loop {
         let mut count = 0;
         let status = call(room.as_mut_ptr(), room.len(), &mut count);
@@ -213,29 +195,36 @@ pub fn written(room_bytes: usize, mut call: impl FnMut(*mut u8, usize, *mut usiz
             room.truncate(count);
             return (status, room);
         }
-        room = vec![0; count];
+        room = vec![T::default(); count];
     }
 }
 
-/// An answer of its own, which is freed where it is dropped.
-struct Answering(SmAnswer);
+/// An answer, which is freed where it is dropped.
+pub struct Held(SmAnswer);
 
-impl Drop for Answering {
+impl Held {
+    /// The status of a call that takes an answer, and the answer.
+    pub fn by(call: impl FnOnce(*mut SmAnswer) -> u32) -> (u32, Held) {
+        let mut held = Held(SmAnswer { at: std::ptr::null_mut() });
+        (call(&mut held.0), held)
+    }
+
+    /// The bytes that are held: none if nothing is.
+    pub fn text(&mut self) -> Vec<u8> {
+        // SAFETY: the pointers are of pieces of memory of these lengths that do not overlap, and nobody else has them.
+        written(0, |room, length, count| unsafe { sm_answer_text(&mut self.0, room, length, count) }).1
+    }
+
+    /// The facts that are held: none if nothing is.
+    pub fn facts(&mut self) -> Vec<SmFact> {
+        // SAFETY: as in `text`.
+        written(0, |room, length, count| unsafe { sm_answer_facts(&mut self.0, room, length, count) }).1
+    }
+}
+
+impl Drop for Held {
     fn drop(&mut self) {
         // SAFETY: the pointer is null, or what the library put there, and nobody else has it.
         unsafe { sm_answer_free(&mut self.0) }
     }
-}
-
-/// The status of a call that takes an answer, and the bytes that the answer then holds.
-pub fn held(call: impl FnOnce(*mut SmAnswer) -> u32) -> (u32, Vec<u8>) {
-    let mut answer = Answering(SmAnswer { at: std::ptr::null_mut() });
-    let status = call(&mut answer.0);
-    if answer.0.at.is_null() {
-        return (status, vec![]);
-    }
-    // SAFETY: the pointers are of pieces of memory of these lengths that do not overlap, and nobody else has them.
-    let (_, text) =
-        written(0, |room, room_bytes, count| unsafe { sm_answer_text(&mut answer.0, room, room_bytes, count) });
-    (status, text)
 }

@@ -1,9 +1,8 @@
 use Rattle.std.proofs.Common.{ℕ, subst}
-use Rattle.gen_asked.specs.declared.asked_runs.AskedRuns.TheVariants.{Any}
-use Rattle.gen_asked.specs.declared.jobs.Job.TheVariants.{Accuse}
-use Rattle.sm_embed.specs.Handing.{HandsJob}
+use Rattle.sm_embed.specs.Knowing.{AccusesBy, AccusesKnown}
 use Rattle.sm_embed.proofs.sm_accuse.Goals as goal
 
-pub returns-clause-general : goal.returns-clause-general
-returns-clause-general c = λ below.
-    subst (λ (g : ℕ). HandsJob (Accuse g Any) c.args.input.now c.args.room.now c.hand_job.new.room c.hand_job.new.count c.hand_job.result) c.at-accused.ensures c.hand_job.ensures
+pub returns-in-Some-clause-general : goal.returns-in-Some-clause-general
+returns-in-Some-clause-general c = λ below.
+    subst (λ wanted. AccusesBy c.args.general c.args.input.now wanted c.accuse_known.new.answer.held c.accuse_known.result) c.in-Some.ensures
+    (subst (λ (g : ℕ). AccusesKnown g c.in-Some.wanted.runs c.args.input.now c.accuse_known.new.answer.held c.accuse_known.result) c.at-accused.ensures c.accuse_known.ensures)

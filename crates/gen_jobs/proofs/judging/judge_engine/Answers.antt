@@ -1,8 +1,8 @@
 use Rattle.std.proofs.Common.{◌≡◌}
 use Rattle.std.specs.Prelude.{IfSome, option_map}
-use Rattle.gen_jobs.specs.Asking.{IsJudgedAs}
-use Rattle.gen_jobs.specs.Run.{IsRunFault}
-use Rattle.gen_jobs.proofs.Delivering.{answered}
+use Rattle.gen_jobs.specs.Judging.{IsJudgedAs}
+use Rattle.gen_making.specs.Run.{IsRunFault}
+use Rattle.gen_ends.proofs.Delivering.{answered}
 use Rattle.gen_jobs.proofs.judging.judge_engine.Goals as goal
 
 pub returns-in-Ok-clause-answers : goal.returns-in-Ok-clause-answers

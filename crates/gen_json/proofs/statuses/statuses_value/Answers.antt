@@ -1,8 +1,9 @@
 use Rattle.std.proofs.Common.{◌≡◌, ℕ, map, ap, ◌∙◌, rules}
 use Rattle.serde_json.specs.View.{view}
 use Rattle.gen_convict.specs.Evidence.{told_of}
-use Rattle.gen_json.specs.declared.statuses.Status.{Status}
-use Rattle.gen_json.specs.StatusData.{status_data, status_of}
+use Rattle.gen_facts.specs.declared.statuses.Status.{Status}
+use Rattle.gen_facts.specs.Statuses.{status_of}
+use Rattle.gen_json.specs.StatusData.{status_data}
 use Rattle.gen_json.proofs.Ranges.{pushed}
 use Rattle.gen_json.proofs.statuses.statuses_value.Goals as goal
 

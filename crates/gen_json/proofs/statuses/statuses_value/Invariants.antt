@@ -2,7 +2,8 @@ use Rattle.std.proofs.Common.{◌≡◌, map}
 use Rattle.std.specs.List.{range_with_len}
 use Rattle.serde_json.specs.View.{view}
 use Rattle.gen_convict.specs.Evidence.{told_of}
-use Rattle.gen_json.specs.StatusData.{status_data, status_of}
+use Rattle.gen_facts.specs.Statuses.{status_of}
+use Rattle.gen_json.specs.StatusData.{status_data}
 use Rattle.gen_json.proofs.statuses.statuses_value.Given as goal
 
 abbrev pub invariant-loop-number : goal.invariant-loop-number

@@ -1,6 +1,6 @@
 use Rattle.std.proofs.Common.{inr}
-use Rattle.gen_jobs.specs.declared.ends.JobEnd.TheVariants.{Failed}
-use Rattle.gen_jobs.specs.declared.ends.JobFault.TheVariants as faults
+use Rattle.gen_ends.specs.declared.ends.JobEnd.TheVariants.{Failed}
+use Rattle.gen_ends.specs.declared.ends.JobFault.TheVariants as faults
 use Rattle.gen_program.proofs.program.refuse.Goals as goal
 
 pub returns-in-Memory-clause-status : goal.returns-in-Memory-clause-status

@@ -1,0 +1,3 @@
+pub mod Delivering
+pub mod Known
+pub mod Reading

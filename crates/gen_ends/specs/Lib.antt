@@ -1,0 +1,4 @@
+pub mod Answering
+pub mod Ends
+pub mod Failing
+pub mod FaultLines

@@ -1,0 +1,4 @@
+pub mod PlainCampaigns
+pub mod PlainEntries
+pub mod PlainShown
+pub mod ShownLines

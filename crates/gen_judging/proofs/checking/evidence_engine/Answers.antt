@@ -1,0 +1,10 @@
+use Rattle.std.proofs.Common.{◌≡◌}
+use Rattle.std.specs.Prelude.{IfSome}
+use Rattle.gen_judging.specs.Asking.{IsCheckedIn, IsEvidenceFaultOf}
+use Rattle.gen_ends.proofs.Delivering.{answered}
+use Rattle.gen_judging.proofs.checking.evidence_engine.Goals as goal
+
+pub returns-in-Ok-clause-answers : goal.returns-in-Ok-clause-answers
+returns-in-Ok-clause-answers g c =
+    let whole : IfSome (g.R.Read.remaining c.args.reader.now) (λ input. c.deref.result.now ≡ input) = rw c.deref.ensures.value c.in-Ok.ensures.whole in
+    answered (IsCheckedIn c.args.form c.args.asked) (IsEvidenceFaultOf c.args.asked) (g.R.Read.remaining c.args.reader.now) (g.W.Write.contents c.args.writer.now) (g.W.Write.contents c.deliver.new.writer) c.deref.result.now c.evidence.result c.deliver.result (λ never. never) whole c.evidence.ensures.answer c.evidence.ensures.fault c.deliver.ensures

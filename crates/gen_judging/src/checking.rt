@@ -1,0 +1,99 @@
+//! The job `evidence`: checks whether evidence holds.
+ghost use Rattle.std.specs.Prelude.{◌≡◌, IfOk, IfErr, IfSome};
+ghost use Rattle.gen_convict.specs.Evidence.{told_of};
+ghost use Rattle.gen_convict.specs.EvidenceReading.{IsWhole};
+ghost use Rattle.gen_ends.specs.Answering.{Answers};
+ghost use Rattle.gen_judging.specs.Asking.{IsCheckedIn, IsEvidenceFaultOf};
+ghost use Rattle.gen_judging.specs.Checking.{Tells};
+ghost use Rattle.gen_ends.specs.Ends.{IsTaken, KeepsUntilWhole};
+
+use gen_asked::{AskedRuns, Form};
+use gen_convict::{Evidence, check_evidence, read_evidence};
+use gen_ends::{JobEnd, JobFault, Output, deliver, read_all};
+use gen_json::print_evidence_json;
+use gen_net::Header;
+use std::alloc::{AllocError, Global};
+use std::io::{Read, Write};
+
+/// The output for evidence that holds.
+const HOLDS: &[u8] = b"evidence holds\n";
+
+/// The output for evidence that doesn't hold.
+const FAILS: &[u8] = b"evidence fails\n";
+
+/// Returns in this form what is told of evidence under its header. The output says no if the evidence doesn't hold.
+fn output_for(
+    alloc: Global,
+    form: Form,
+    header: &Header,
+    evidence: &Evidence,
+) -> Result<Output, AllocError>
+    requires { IsWhole (record { header = header.now; evidence = told_of evidence.now }) }
+    ensures { IfOk result (λ o. Tells form
+        (record { header = header.now; evidence = told_of evidence.now })
+        o.text.items o.negative) }
+{
+    let holds = check_evidence(alloc, header, evidence)?;
+    let text = match (form, holds) {
+        (Form::Text, true) => HOLDS.to_vec(alloc)?,
+        (Form::Text, false) => FAILS.to_vec(alloc)?,
+        (Form::Json, _) => print_evidence_json(alloc, header, evidence, holds)?,
+    };
+    Ok(Output {
+        text,
+        negative: !holds,
+    })
+}
+
+/// Returns in this form what is told of the evidence that the input spells. The output says no if it doesn't hold. It
+/// must be of the run that is asked for: that of its header. For evidence across two runs this is the first of them.
+///
+/// # Errors
+///
+/// `Evidence` with the first fault of an input that spells no evidence; else `OtherRun` if the run is another. `Memory`
+/// if memory is refused.
+#[tactic(auto, using(crate::proofs::AskedFaults::of_other))]
+pub fn evidence(
+    alloc: Global,
+    form: Form,
+    asked: AskedRuns,
+    input: &[u8],
+) -> Result<Output, JobFault>
+    ensures answer { IfOk result (λ o. IsCheckedIn form asked input.now o.text.items o.negative) }
+    ensures fault { IfErr result (IsEvidenceFaultOf asked input.now) }
+{
+    let (header, evidence) = read_evidence(alloc, input)?;
+    if !asked.are(&[*header.run_id()]) {
+        return Err(JobFault::OtherRun);
+    }
+    Ok(output_for(alloc, form, &header, &evidence)?)
+}
+
+/// Reads the bytes of evidence to their end, and writes in this form whether it holds, as text `evidence holds` or
+/// `evidence fails`, and LF. It writes nothing if they spell none, or evidence of another run than the one that is asked
+/// for. The end is negative if the evidence fails.
+///
+/// A fault of the input is looked for after the whole input was read, and nothing is written before the output is
+/// whole. If a read, a write or memory fails, the job ends with that fault.
+#[tactic(auto, using(gen_ends::proofs::Delivering::output_engine))]
+pub fn evidence_engine<R: Read, W: Write>(
+    alloc: Global,
+    form: Form,
+    asked: AskedRuns,
+    reader: &mut R,
+    writer: &mut W,
+) -> JobEnd
+    // What is written says whether the evidence that was read holds.
+    ensures answers { IfSome (R.remaining reader.old) (λ input.
+        Answers (IsCheckedIn form asked input) (IsEvidenceFaultOf asked input)
+        (W.contents writer.old) (W.contents writer.new) result) }
+    // What was read is within the limit.
+    ensures taken { IfSome (R.remaining reader.old) (λ input. IsTaken input result) }
+    // Nothing is written before the output is whole.
+    ensures late { KeepsUntilWhole (W.contents writer.old) (W.contents writer.new) result }
+{
+    match read_all(alloc, reader) {
+        Ok(input) => deliver(writer, evidence(alloc, form, asked, &input)),
+        Err(fault) => JobEnd::Failed(fault),
+    }
+}

@@ -1,0 +1,56 @@
+//! Where an answer comes from.
+ghost use Rattle.std.specs.Prelude.{◌≡◌, IfOk, option_map};
+ghost use Rattle.gen_judging.specs.Origins.{ids_asked, list_asked, origin_in};
+
+use gen_asked::{Asked, AskedRuns, Faulty, Form};
+use gen_json::Origin;
+use gen_types::GeneralSet;
+use std::alloc::{AllocError, Global};
+
+/// Returns the ids of the runs that are asked for, if any are.
+fn ids_asked(runs: &AskedRuns) -> Option<&[[u8; 32]]>
+    ensures { option_map (λ ids. ids.now) result ≡ ids_asked runs.now }
+{
+    match runs {
+        AskedRuns::Any => None,
+        AskedRuns::One(ids) => Some(ids),
+        AskedRuns::Two(ids) => Some(ids),
+        AskedRuns::Three(ids) => Some(ids),
+        AskedRuns::Four(ids) => Some(ids),
+    }
+}
+
+/// Returns the generals that are asked for as faulty, if any list is.
+fn list_asked(faulty: Faulty) -> Option<GeneralSet>
+    ensures { result ≡ list_asked faulty }
+{
+    match faulty {
+        Faulty::Listed => None,
+        Faulty::These(set) => Some(set),
+    }
+}
+
+/// Returns where the answer in this form comes from, of an input with this name and of what is asked. An answer as text
+/// doesn't tell it.
+///
+/// # Errors
+///
+/// `AllocError` if memory is refused.
+pub fn origin_in(
+    alloc: Global,
+    form: Form,
+    name: Option<&str>,
+    asked: &Asked,
+    input: &[u8],
+) -> Result<Option<Origin>, AllocError>
+    ensures { IfOk result (λ origin. origin
+        ≡ origin_in form (option_map (λ t. t.now) name.entry) asked.now input.now) }
+{
+    match form {
+        Form::Text => Ok(None),
+        Form::Json => {
+            let (list, ids) = (list_asked(asked.faulty), ids_asked(&asked.runs));
+            Ok(Some(Origin::new(alloc, name, input, list, ids)?))
+        }
+    }
+}

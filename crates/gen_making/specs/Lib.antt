@@ -1,0 +1,4 @@
+pub mod Campaigning
+pub mod Joining
+pub mod Preparing
+pub mod Run

@@ -1,8 +1,0 @@
-use Rattle.std.proofs.Common.{◌≡◌, map, take}
-use Rattle.std.specs.List.{flat_map}
-use Rattle.gen_show.specs.Rows.{row_in}
-use Rattle.gen_show.specs.Shown.{row_shown}
-use Rattle.gen_show.proofs.rows.split_rows.Given as goal
-
-abbrev pub invariant-loop-line : goal.invariant-loop-line
-invariant-loop-line l = map row_shown l.rows.items ≡ flat_map row_in (map (λ x. x.now) (take l.line-index l.line-items))

@@ -1,8 +1,0 @@
-use Rattle.std.proofs.Common.{◌≡◌, ◌++◌, map, take}
-use Rattle.std.specs.List.{flat_map}
-use Rattle.gen_show.specs.Shown.{row_shown}
-use Rattle.gen_show.specs.Worded.{said}
-use Rattle.gen_show.proofs.wording.push_meaning_by.Given as goal
-
-abbrev pub invariant-loop-name : goal.invariant-loop-name
-invariant-loop-name l = l.out.items ≡ l.initial.out.items ++ flat_map (said (map row_shown l.rows)) (map (λ x. x.now) (take l.name-index l.names))

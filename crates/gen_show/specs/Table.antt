@@ -1,7 +1,0 @@
--- The rows of this project's table.
-use Rattle.std.specs.Prelude.{List}
-use Rattle.gen_show.specs.declared.table.TheConstants.{WORDS}
-use Rattle.gen_show.specs.Rows.{Row, rows_in}
-
-unfoldable pub words : List Row
-words = rows_in WORDS.now

@@ -1,0 +1,40 @@
+-- What a caller in another language asks for.
+use Rattle.std.specs.Prelude.{ℕ, ◌==◌, not, if◌then◌else◌, List, [], ◌∷◌, Option, Some, None, option_map, option_and_then}
+use Rattle.gen_asked.specs.AskedRuns.{few_runs}
+use Rattle.gen_asked.specs.declared.asked_runs.AskedRuns.{AskedRuns}
+use Rattle.gen_asked.specs.declared.asked_runs.AskedRuns.TheVariants.{Any}
+use Rattle.gen_asked.specs.declared.faulty.Faulty.TheVariants.{Listed}
+use Rattle.gen_asked.specs.declared.forms.Form.{Form}
+use Rattle.gen_asked.specs.declared.forms.Form.TheVariants.{Text, Json}
+use Rattle.gen_asked.specs.declared.jobs.Job.{Job}
+use Rattle.gen_asked.specs.declared.jobs.Job.TheVariants as jobs
+use Rattle.sm_embed.specs.declared.options.SmOptions.{SmOptions}
+use Rattle.sm_embed.specs.declared.options.Wanted.{Wanted}
+use Rattle.sm_embed.specs.declared.options.Task.{Task}
+use Rattle.sm_embed.specs.declared.options.Task.TheVariants.{Audit, Draw, Evidence, Decide, Show}
+
+-- the runs with these ids: any for none, and None for more than four
+abbrev pub asked_in : List (List ℕ) → Option AskedRuns
+asked_in [] = Some Any
+asked_in (id ∷ ids) = few_runs (id ∷ ids)
+
+-- the form with this number: text for 0, JSON for 1, and None for any other
+abbrev pub form_in : ℕ → Option Form
+form_in number = if number == 0 then Some Text else if number == 1 then Some Json else None
+
+-- what options ask for, if their runs are at most four, and their form is one; a strict number is any but 0
+abbrev pub wanted_in : SmOptions → Option Wanted
+wanted_in options =
+    option_and_then
+    (λ runs. option_map
+    (λ form. record { runs = runs; strict = not (options.strict == 0); form = form })
+    (form_in options.form))
+    (asked_in options.runs.now)
+
+-- the job of a task, by one worker where it takes any, of the generals that the input lists
+abbrev pub job_of : Task → Wanted → Job
+job_of Audit w = jobs.Audit 1 (record { runs = w.runs; faulty = Listed }) w.strict w.form
+job_of Draw w = jobs.Draw 1 (record { runs = w.runs; faulty = Listed })
+job_of Evidence w = jobs.Evidence w.runs w.form
+job_of Decide w = jobs.Decide w.form
+job_of Show w = jobs.Show w.runs w.form
