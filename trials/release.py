@@ -246,7 +246,8 @@ def try_uses(prefix, place, tally):
     told = {**ENV, "PKG_CONFIG_PATH": os.path.join(prefix, "lib", "pkgconfig"), "LD_LIBRARY_PATH": os.path.join(prefix, "lib")}
     documents, folder = os.path.join(prefix, "share", "doc", "vamuretu"), os.path.join(place, "uses")
     os.mkdir(folder)
-    for name, source in (("judge.c", "example.c"), ("node.c", "nodes/header.c"), ("files.h", "nodes/files.h")):
+    sources = (("judge.c", "example.c"), ("answers.h", "answers.h"), ("node.c", "nodes/header.c"), ("files.h", "nodes/files.h"))
+    for name, source in sources:
         shutil.copy(os.path.join(documents, "embed", source), os.path.join(folder, name))
     programs = {}
     if shutil.which("pkg-config"):
