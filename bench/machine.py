@@ -11,7 +11,7 @@ from audit import all_crates
 from kernels import built_unread
 from signed import signed
 
-MACHINE_ON = "gen_report gen_async gen_world gen_log anyhow"
+MACHINE_ON = "gen_text gen_async gen_world gen_log anyhow"
 RUNS = 5
 
 

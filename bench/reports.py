@@ -13,7 +13,7 @@ from audit import all_crates
 from kernels import KEY_CRATES, KEYS_ON, built, built_unread, least
 from signed import signed
 
-REPORTS_ON = "gen_report gen_local gen_world gen_log gen_chain gen_net anyhow"
+REPORTS_ON = "gen_text gen_local gen_world gen_log gen_chain gen_net anyhow"
 MEASURE = ("+report_each/Invariants.antt", "reports_measure.txt")
 RUNS = 5
 

@@ -136,7 +136,7 @@ static int judge(const struct run *run) {
     uint8_t id[SM_RUN_ID_BYTES];
     uint32_t fault = 0;
     size_t bundle_bytes;
-    const sm_options asked = {id, 1, 1, SM_TEXT};
+    const sm_options asked = {.runs = id, .run_count = 1, .strict = 1};
     sm_answer answer = {0};
     uint8_t *bundle = make_bundle(run, &bundle_bytes);
     must("sm_node_run_id", sm_node_run_id(run->header, run->header_bytes, id, &fault), fault);

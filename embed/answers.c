@@ -4,7 +4,9 @@
        answers evidence [--json] [--run IDS]
        answers draw [--run IDS]
        answers decide [--json]
-       answers accuse --general GENERAL [--run IDS]
+       answers accuse [--receipts] --general GENERAL [--run IDS]
+       answers receipt --general GENERAL [--run IDS]
+       answers receipts [--json] [--run IDS]
        answers show [--json] [--run IDS]
        answers explain|words|plan|run-ids
 
@@ -66,6 +68,8 @@ static bool is_asked(struct job *job, int words, char **word) {
             job->options.strict = 1;
         } else if (strcmp(word[at], "--json") == 0) {
             job->options.form = SM_JSON;
+        } else if (strcmp(word[at], "--receipts") == 0) {
+            job->options.receipts = 1;
         } else if (at + 1 < words && strcmp(word[at], "--run") == 0) {
             if (!takes_runs(job, word[++at])) return false;
         } else if (at + 1 < words && strcmp(word[at], "--general") == 0) {
@@ -75,7 +79,7 @@ static bool is_asked(struct job *job, int words, char **word) {
             return false;
         }
     }
-    return has_general == (strcmp(job->name, "accuse") == 0);
+    return has_general == (strcmp(job->name, "accuse") == 0 || strcmp(job->name, "receipt") == 0);
 }
 
 /* One call of the library. */
@@ -86,10 +90,12 @@ static uint32_t call(const struct job *job, struct bytes input, sm_answer *answe
         uint32_t (*tell)(const uint8_t *, size_t, sm_answer *);
     } jobs[] = {
         {"audit", sm_audit, NULL}, {"evidence", sm_evidence, NULL}, {"decide", sm_decide, NULL},
-        {"draw", sm_draw, NULL},   {"show", sm_show, NULL},         {"explain", NULL, sm_explain},
-        {"words", NULL, sm_words}, {"plan", NULL, sm_plan},         {"run-ids", NULL, sm_run_id},
+        {"draw", sm_draw, NULL},   {"show", sm_show, NULL},         {"receipts", sm_receipts, NULL},
+        {"words", NULL, sm_words}, {"explain", NULL, sm_explain},   {"plan", NULL, sm_plan},
+        {"run-ids", NULL, sm_run_id},
     };
     if (strcmp(job->name, "accuse") == 0) return sm_accuse(job->general, input.at, input.length, &job->options, answer);
+    if (strcmp(job->name, "receipt") == 0) return sm_receipt(job->general, input.at, input.length, &job->options, answer);
     for (size_t at = 0; at < sizeof jobs / sizeof *jobs; at++) {
         if (strcmp(job->name, jobs[at].name) != 0) continue;
         if (jobs[at].ask != NULL) return jobs[at].ask(input.at, input.length, &job->options, answer);

@@ -17,7 +17,8 @@ JOBS = ("audit", "draw", "evidence", "decide", "accuse")
 class Options(ctypes.Structure):
     """What is asked besides the input. A value without arguments asks for nothing."""
 
-    _fields_ = [("runs", ctypes.c_char_p), ("run_count", ctypes.c_size_t), ("strict", ctypes.c_uint32), ("form", ctypes.c_uint32)]
+    _fields_ = [("runs", ctypes.c_char_p), ("run_count", ctypes.c_size_t)]
+    _fields_ += [(name, ctypes.c_uint32) for name in ("strict", "form", "receipts")]
 
 
 class Library:

@@ -3,11 +3,11 @@
    Link libsm_embed.a and heap.c, which a release has as libsm_embed_heap.a too. docs/EMBED.md says more. A general is
    a node.
 
-   A job is one call, which puts its answer into an sm_answer: a text, and of sm_audit and sm_decide also facts, which
-   are structs. sm_answer_text and sm_answer_facts write these into room, as often as they are asked to, and change
-   nothing of the answer. sm_answer_free frees it. An sm_answer is one pointer. The caller sets it to null before the
-   first call, as by `sm_answer answer = {0};`, and does not read, write or copy it afterwards. A job frees what was
-   held before, so one answer serves many calls.
+   A job is one call, which puts its answer into an sm_answer: a text, and of sm_audit, sm_receipts and sm_decide also
+   facts, which are structs. sm_answer_text and sm_answer_facts write these into room, as often as they are asked to,
+   and change nothing of the answer. sm_answer_free frees it. An sm_answer is one pointer. The caller sets it to null
+   before the first call, as by `sm_answer answer = {0};`, and does not read, write or copy it afterwards. A job frees
+   what was held before, so one answer serves many calls.
 
    Each function but sm_answer_free and sm_version returns one of these numbers. The numbers 0 to 4 are the exit
    statuses of sm_tool. sm_status.h has them, and what may change between versions.
@@ -63,25 +63,32 @@ enum sm_form {
 typedef struct {
     const uint8_t *runs; /* the run ids that are expected, SM_RUN_ID_BYTES bytes each, one after another */
     size_t run_count;    /* how many there are, 0 to SM_RUNS_MOST. Of 0 the input may be of any run. Else it must be of
-                            exactly these runs: a bundle or evidence of one, a campaign of its runs in their order */
+                            exactly these runs: a bundle, evidence or receipts of one, a campaign of its runs in their
+                            order */
     uint32_t strict;     /* of sm_audit: not 0 makes a no of `explained` too, and of two generals with the same root */
-    uint32_t form;       /* of sm_audit, sm_evidence, sm_decide and sm_show: SM_TEXT or SM_JSON */
+    uint32_t form;       /* of sm_audit, sm_evidence, sm_receipts, sm_decide and sm_show: SM_TEXT or SM_JSON */
+    uint32_t receipts;   /* of sm_accuse: not 0 if the input is receipts, and no bundle and no campaign */
 } sm_options;
 
 /* The kinds of facts, with the fields that each has besides `kind` and `run`. */
 enum sm_fact_kind {
-    SM_FACT_RUN = 1,        /* number: an sm_verdict; order: that of agreed; generals: n; traitors: m; set: the generals
-                               that are held for faulty, bit g for general g; run_id */
-    SM_FACT_STATUS = 2,     /* general; number: an sm_general_status */
-    SM_FACT_DECISION = 3,   /* general; order: what it decides; set: of sm_decide the orders that it accepted, bit v for
-                               order v */
-    SM_FACT_FINDING = 4,    /* number: 1 to 11 for N1 to N11; general: of N1 to N7; entry: of N5 and N7; log_fault: of
-                               N3, 1 to 6 for L1 to L6; chain_fault: of L5, 1 to 5 for C1 to C5; general, other, round
-                               and order: of N8 and N9 the sender, the receiver, the round and the order; general,
-                               other: of N10 the pair */
-    SM_FACT_CONVICTION = 5, /* general; number: the least kind that the exhibits hold, 1 to 4 for K1 to K4 */
-    SM_FACT_ACROSS = 6,     /* general: who is convicted by K1 across two runs of a campaign, `run` and other */
-    SM_FACT_EQUAL_ROOTS = 7 /* general, other: two generals with the same root */
+    SM_FACT_RUN = 1,         /* number: an sm_verdict; order: that of agreed; generals: n; traitors: m; set: the
+                                generals that are held for faulty, bit g for general g; run_id */
+    SM_FACT_STATUS = 2,      /* general; number: an sm_general_status */
+    SM_FACT_DECISION = 3,    /* general; order: what it decides; set: of sm_decide the orders that it accepted, bit v
+                                for order v */
+    SM_FACT_FINDING = 4,     /* number: 1 to 11 for N1 to N11; general: of N1 to N7; entry: of N5 and N7; log_fault: of
+                                N3, 1 to 6 for L1 to L6; chain_fault: of L5, 1 to 5 for C1 to C5; general, other, round
+                                and order: of N8 and N9 the sender, the receiver, the round and the order; general,
+                                other: of N10 the pair */
+    SM_FACT_CONVICTION = 5,  /* general; number: the least kind that the exhibits hold, 1 to 4 for K1 to K4, and of
+                                receipts 1 */
+    SM_FACT_ACROSS = 6,      /* general: who is convicted by K1 across two runs of a campaign, `run` and other */
+    SM_FACT_EQUAL_ROOTS = 7, /* general, other: two generals with the same root */
+    SM_FACT_SHOWN = 8,       /* set: the orders that more than m generals show, bit v for order v; generals: n;
+                                traitors: m; run_id */
+    SM_FACT_RECEIPT = 9      /* general; order: what it decides; set: the orders that it accepted, bit v for order v;
+                                entry: how many entries its log has; number: 1 if the receipt holds, 2 if it fails */
 };
 
 /* What a verdict says: nothing is found, and at most m generals are held for faulty; nothing is found, and more are,
@@ -99,8 +106,9 @@ enum sm_general_status {
 /* One fact of an answer. `kind` is an sm_fact_kind, `run` the place of the run in its campaign, counted from 0, and a
    field that the kind does not have is 0. Facts of sm_audit stand in this order: for each run its SM_FACT_RUN, the
    status of each general, the decisions of `explained` or the findings of `no`, and the convictions; behind all runs
-   the convictions across two of them, and the equal roots, which do not hang on `strict`. Facts of sm_decide are
-   decisions. Other answers have none. */
+   the convictions across two of them, and the equal roots, which do not hang on `strict`. Facts of sm_receipts are the
+   SM_FACT_SHOWN, each receipt in the order of the input, and the convictions. Facts of sm_decide are decisions. Other
+   answers have none. */
 typedef struct {
     uint32_t kind, run, general, other, number, order, round, log_fault, chain_fault, generals, traitors, set;
     uint64_t entry;
@@ -119,9 +127,10 @@ uint32_t sm_draw(const uint8_t *input, size_t input_bytes, const sm_options *opt
     SM_CALL(1, 3, 4);
 
 /* The evidence against a general that a bundle or a campaign holds, as sm_tool accuse --general G: bytes, and no text.
-   If there is no evidence, the answer is a no of 0 bytes. Runs that are expected are compared before the general. In a
-   campaign all runs have the same generals. Returns SM_OK, SM_NO, SM_MISUSE, SM_FAULT, SM_MEMORY, SM_NOBODY or
-   SM_OTHER. */
+   With `receipts` the input is receipts, as of sm_tool accuse --receipts --general G. The evidence is then the heads of
+   the first two receipts of the general that hold and have different heads. If there is no evidence, the answer is a no
+   of 0 bytes. Runs that are expected are compared before the general. In a campaign all runs have the same generals.
+   Returns SM_OK, SM_NO, SM_MISUSE, SM_FAULT, SM_MEMORY, SM_NOBODY or SM_OTHER. */
 uint32_t sm_accuse(uint32_t general, const uint8_t *input, size_t input_bytes, const sm_options *options,
                    sm_answer *answer) SM_CALL(2, 4, 5);
 
@@ -129,6 +138,20 @@ uint32_t sm_accuse(uint32_t general, const uint8_t *input, size_t input_bytes, c
    if the evidence fails. SM_JSON also has the run, the accused and the kind. Returns SM_OK, SM_NO, SM_MISUSE, SM_FAULT,
    SM_MEMORY or SM_OTHER. */
 uint32_t sm_evidence(const uint8_t *input, size_t input_bytes, const sm_options *options, sm_answer *answer)
+    SM_CALL(1, 3, 4);
+
+/* The receipt of a log of a general, as sm_tool receipt --general G: bytes, and no text. The input is a bundle, and no
+   campaign. The receipt is of the first log of the general in the bundle whose receipt holds. If there is none, the
+   answer is a no of 0 bytes. Runs that are expected are compared before the general. Returns SM_OK, SM_NO, SM_MISUSE,
+   SM_FAULT, SM_MEMORY, SM_NOBODY or SM_OTHER. */
+uint32_t sm_receipt(uint32_t general, const uint8_t *input, size_t input_bytes, const sm_options *options,
+                    sm_answer *answer) SM_CALL(2, 4, 5);
+
+/* Which order more than m generals show by their receipts, as sm_tool receipts. The input is receipts of one run, one
+   behind another. The answer is a no unless exactly one order is shown. Two orders that are shown prove that more than
+   m generals are faulty, or that keys were stolen or used twice. Returns SM_OK, SM_NO, SM_MISUSE, SM_FAULT, SM_MEMORY
+   or SM_OTHER. */
+uint32_t sm_receipts(const uint8_t *input, size_t input_bytes, const sm_options *options, sm_answer *answer)
     SM_CALL(1, 3, 4);
 
 /* What the generals decide in the run of a scenario, as sm_tool decide. No run ids are compared, and the answer is
@@ -215,7 +238,7 @@ static inline const uint8_t *sm_bytes_at(const uint8_t *at) {
 }
 /* Options that are not null, nor are their run ids if there are none. */
 static inline sm_options sm_whole(const sm_options *options) {
-    sm_options whole = {NULL, 0, 0, 0};
+    sm_options whole = {NULL, 0, 0, 0, 0};
     if (options != NULL) whole = *options;
     if (whole.run_count == 0) whole.runs = sm_bytes_at(whole.runs);
     return whole;
@@ -237,21 +260,25 @@ static inline uint32_t sm_no_answer(sm_answer *answer) {
         if (sm_is_missing(input, input_bytes) || whole.runs == NULL) return sm_no_answer(answer);                      \
         return sm_##name(sm_bytes_at(input), input_bytes, &whole, answer);                                             \
     }
+#define SM_CHECKED_GENERAL(name)                                                                                       \
+    SM_CALL(5) static inline uint32_t sm_checked_##name(uint32_t general, const uint8_t *input, size_t input_bytes,    \
+                                                        const sm_options *options, sm_answer *answer) {                \
+        sm_options whole = sm_whole(options);                                                                          \
+        if (sm_is_missing(input, input_bytes) || whole.runs == NULL) return sm_no_answer(answer);                      \
+        return sm_##name(general, sm_bytes_at(input), input_bytes, &whole, answer);                                    \
+    }
 SM_CHECKED_OPTIONS(audit)
 SM_CHECKED_OPTIONS(draw)
 SM_CHECKED_OPTIONS(evidence)
+SM_CHECKED_OPTIONS(receipts)
 SM_CHECKED_OPTIONS(decide)
 SM_CHECKED_OPTIONS(show)
 SM_CHECKED(explain)
 SM_CHECKED(words)
 SM_CHECKED(plan)
 SM_CHECKED(run_id)
-SM_CALL(5) static inline uint32_t sm_checked_accuse(uint32_t general, const uint8_t *input, size_t input_bytes,
-                                                    const sm_options *options, sm_answer *answer) {
-    sm_options whole = sm_whole(options);
-    if (sm_is_missing(input, input_bytes) || whole.runs == NULL) return sm_no_answer(answer);
-    return sm_accuse(general, sm_bytes_at(input), input_bytes, &whole, answer);
-}
+SM_CHECKED_GENERAL(accuse)
+SM_CHECKED_GENERAL(receipt)
 SM_CALL(5) static inline uint32_t sm_checked_refute(const uint8_t *evidence, size_t evidence_bytes, const uint8_t *log,
                                                     size_t log_bytes, sm_answer *answer) {
     if (sm_is_missing(evidence, evidence_bytes) || sm_is_missing(log, log_bytes)) return sm_no_answer(answer);
@@ -273,10 +300,13 @@ SM_CALL(4) static inline uint32_t sm_checked_answer_facts(sm_answer *answer, sm_
 }
 #undef SM_CHECKED
 #undef SM_CHECKED_OPTIONS
+#undef SM_CHECKED_GENERAL
 #define sm_audit sm_checked_audit
 #define sm_draw sm_checked_draw
 #define sm_accuse sm_checked_accuse
 #define sm_evidence sm_checked_evidence
+#define sm_receipt sm_checked_receipt
+#define sm_receipts sm_checked_receipts
 #define sm_decide sm_checked_decide
 #define sm_show sm_checked_show
 #define sm_refute sm_checked_refute

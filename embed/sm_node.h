@@ -22,10 +22,12 @@
    returns each of them. sm_status.h has them, and what may change between versions.
 
      SM_OK       it was done
+     SM_NO       it was done, and the answer is a no: of sm_node_shown alone
      SM_MISUSE   the call is not allowed here, or a pointer is null though there are bytes, and nothing was changed
      SM_FAULT    the input has a fault, and nothing was changed: *fault is its number
      SM_MEMORY   memory was refused, and the same call may be made again
      SM_LENGTH   the bytes are longer than the room, and nothing was changed: call again with room for *count bytes
+     SM_OTHER    the receipts are of another run than the one that is expected: of sm_node_shown alone
 
    At SM_MEMORY nothing was changed, but by two functions: after sm_node_begin_round a round may be half begun, and
    after sm_node_end_round half ended. The same call continues it, and nothing is signed twice. Until it is done,
@@ -69,10 +71,11 @@ extern "C" {
 #define sm_frame_most sm_node_frame_most
 #define sm_fault_text sm_node_fault_text
 
-/* In place of an order: the general has none. Only general 0, the commander, has one. */
+/* In place of an order: the general has none of its own, as every general but the commander, or no order is told. */
 enum { SM_NO_ORDER = 255 };
 
-/* The numbers of faults. docs/FORMATS.md says what H1 to H11, F1 to F8 and B1 to B9 are. */
+/* The numbers of faults. docs/FORMATS.md says what H1 to H11, F1 to F8, B1 to B9 and Q1 to Q5
+   are. */
 enum sm_node_fault {
     SM_H1 = 1, SM_H2, SM_H3, SM_H4, SM_H5, SM_H6, SM_H7, SM_H8, SM_H9, SM_H10, SM_H11, /* of a header */
     SM_LEFT_OVER = 12,  /* bytes are left over behind a header */
@@ -86,7 +89,9 @@ enum sm_node_fault {
     /* Of a bundle. Only SM_B4, SM_B7 and SM_B9 can come, as no bundle is read, and the library makes the walks. A fault
        of the bundle's header is reported as the header's. */
     SM_B1 = 41, SM_B2, SM_B3, SM_B4, SM_B5, SM_B6, SM_B7, SM_B8, SM_B9,
-    SM_LONG_LOG = 50    /* a log has 2^32 bytes or more */
+    SM_LONG_LOG = 50,   /* a log has 2^32 bytes or more */
+    /* Of receipts. A fault of their header is reported as the header's, so SM_Q3 never comes. */
+    SM_Q1 = 61, SM_Q2, SM_Q3, SM_Q4, SM_Q5
 };
 
 /* A node, or keys: the content is the library's. */
@@ -181,6 +186,12 @@ uint32_t sm_node_finish(sm_node *node) SM_CALL(1);
    SM_LENGTH. */
 uint32_t sm_node_log(sm_node *node, uint8_t *room, size_t room_bytes, size_t *count) SM_CALL(1, 2, 4);
 
+/* Writes the bytes of the receipt of a node that has ended. A receipt is the end of the node's log, and shows what the
+   node decided without the log. It holds. For n generals and e edges it has 16567 + 2 * e + 32 * n bytes in version 1,
+   and 65 more in version 2. Receipts of several nodes, one behind another, are what sm_node_shown reads. SM_MISUSE if
+   there is none. Returns SM_OK, SM_MISUSE, SM_MEMORY or SM_LENGTH. */
+uint32_t sm_node_receipt(sm_node *node, uint8_t *room, size_t room_bytes, size_t *count) SM_CALL(1, 2, 4);
+
 /* Writes the order that a node which has ended decided, 0 to 14. SM_MISUSE if there is none; then *order is 0. Returns
    SM_OK or SM_MISUSE. */
 uint32_t sm_node_order(sm_node *node, uint32_t *order) SM_CALL(1, 2);
@@ -201,6 +212,24 @@ void sm_node_free(sm_node *node);
 uint32_t sm_node_bundle(const uint8_t *header, size_t header_bytes, uint32_t faulty, uint32_t parted,
                         const sm_log *logs, size_t log_count, const uint8_t *bytes, size_t byte_count, uint8_t *room,
                         size_t room_bytes, size_t *count, uint32_t *fault, sm_pair *apart) SM_CALL(1, 5, 7, 9, 11, 12, 13);
+
+/* Tells the order that receipts show: more than m generals have a receipt among them that says the order and holds.
+   The receipts stand one behind another, in any order, and each begins with the header of the run. They may be
+   anybody's bytes. The run id is the one that the caller expects, so the caller knows the roots under which they are
+   verified. If at most m generals are faulty, each node that is not faulty decided the order that is shown.
+
+     SM_OK       exactly one order is shown: *order is that order. At any other status *order is SM_NO_ORDER
+     SM_NO       no order is shown, or two are. Two mean that more than m generals are faulty, or that keys of other
+                 generals were stolen or used twice
+     SM_FAULT    the bytes are not receipts of one run: *fault is SM_Q1, SM_Q2, SM_Q4 or SM_Q5, or the number of the
+                 fault of a header
+     SM_OTHER    the receipts are of another run
+
+   A fault is reported before another run is. Receipts that do not hold count for nothing, and several of one general
+   that say one order count once. The call needs memory for the receipts. Returns SM_OK, SM_NO, SM_MISUSE, SM_FAULT,
+   SM_MEMORY or SM_OTHER. */
+uint32_t sm_node_shown(const uint8_t run_id[32], const uint8_t *receipts, size_t receipt_bytes, uint32_t *order,
+                       uint32_t *fault) SM_CALL(1, 4, 5);
 
 /* Reads the numbers of a header from its bytes. The slot of a header of version 1 is 0. The numbers stay as they were if
    it is not SM_OK. Returns SM_OK, SM_MISUSE, SM_FAULT or SM_MEMORY. */
@@ -305,6 +334,11 @@ static inline const char *sm_node_fault_text(uint32_t fault) {
     case SM_B8: return "bytes are left over behind the bundle";
     case SM_B9: return "the logs are not in the order of their generals";
     case SM_LONG_LOG: return "a log has 2^32 bytes or more";
+    case SM_Q1: return "the bytes end before the receipt does";
+    case SM_Q2: return "the first four bytes of a receipt are neither SMR1 nor SMR2";
+    case SM_Q3: return "the header of a receipt breaks a rule";
+    case SM_Q4: return "the general, the order or a member of the set is none of the network's";
+    case SM_Q5: return "a receipt has another header than the first";
     default: return fault == 0 ? "no fault" : "a fault that this header does not know";
     }
 }
@@ -354,6 +388,22 @@ static inline uint32_t sm_checked_node_log(sm_node *node, uint8_t *room, size_t 
     *count = 0;
     if (sm_is_missing(room, room_bytes)) return SM_MISUSE;
     return sm_node_log(node, room ? room : &none, room_bytes, count);
+}
+SM_CALL(1, 4)
+static inline uint32_t sm_checked_node_receipt(sm_node *node, uint8_t *room, size_t room_bytes, size_t *count) {
+    uint8_t none = 0;
+    *count = 0;
+    if (sm_is_missing(room, room_bytes)) return SM_MISUSE;
+    return sm_node_receipt(node, room ? room : &none, room_bytes, count);
+}
+SM_CALL(1, 4, 5)
+static inline uint32_t sm_checked_node_shown(const uint8_t run_id[32], const uint8_t *receipts, size_t receipt_bytes,
+                                             uint32_t *order, uint32_t *fault) {
+    uint8_t none = 0;
+    *order = SM_NO_ORDER;
+    *fault = 0;
+    if (sm_is_missing(receipts, receipt_bytes)) return SM_MISUSE;
+    return sm_node_shown(run_id, receipts ? receipts : &none, receipt_bytes, order, fault);
 }
 SM_CALL(11, 12, 13)
 static inline uint32_t sm_checked_node_bundle(const uint8_t *header, size_t header_bytes, uint32_t faulty,
@@ -427,6 +477,8 @@ static inline uint32_t sm_checked_node_frame_head(const uint8_t *frame, size_t f
 #define sm_node_send sm_checked_node_send
 #define sm_node_hear sm_checked_node_hear
 #define sm_node_log sm_checked_node_log
+#define sm_node_receipt sm_checked_node_receipt
+#define sm_node_shown sm_checked_node_shown
 #define sm_node_bundle sm_checked_node_bundle
 #define sm_node_header_numbers sm_checked_node_header_numbers
 #define sm_node_rounds sm_checked_node_rounds

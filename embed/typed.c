@@ -2,7 +2,7 @@
    answer.
 
        typed audit [--strict]
-       typed decide
+       typed decide|receipts
 
    The exit status is that of sm_tool, and so is the line of what failed. */
 #include "answers.h"
@@ -38,14 +38,20 @@ static void print_finding(const sm_fact *it) {
     printf("\n");
 }
 
-/* Prints what is said of a run first. */
-static void print_run(const sm_fact *it) {
+/* Prints the line of the run id. */
+static void print_run_id(const sm_fact *it) {
     printf("run ");
     for (size_t place = 0; place < SM_RUN_ID_BYTES; place++) printf("%02x", it->run_id[place]);
+    printf("\n");
+}
+
+/* Prints what is said of a run first. */
+static void print_run(const sm_fact *it) {
+    print_run_id(it);
     switch (it->number) {
-    case SM_VERDICT_AGREED: printf("\nverdict agreed %" PRIu32 "\n", it->order); break;
-    case SM_VERDICT_EXPLAINED: printf("\nverdict explained\n"); break;
-    default: printf("\nverdict no\n"); break;
+    case SM_VERDICT_AGREED: printf("verdict agreed %" PRIu32 "\n", it->order); break;
+    case SM_VERDICT_EXPLAINED: printf("verdict explained\n"); break;
+    default: printf("verdict no\n"); break;
     }
 }
 
@@ -82,46 +88,86 @@ static void print_verdict(struct facts facts, int is_campaign, int is_strict) {
     for (; is_strict && it != end; it++) print_fact(it);
 }
 
-/* Prints the decisions of a scenario. */
-static void print_decisions(struct facts facts) {
-    for (const sm_fact *it = facts.at; it != facts.at + facts.count; it++) {
-        const char *before = " set ";
-        printf("general %" PRIu32, it->general);
-        for (uint32_t order = 0; order < SM_ORDERS_MOST; order++) {
-            if ((it->set >> order & 1) == 0) continue;
-            printf("%s%" PRIu32, before, order);
-            before = ",";
-        }
-        printf("%s decides %" PRIu32 "\n", it->set == 0 ? " set -" : "", it->order);
+/* Prints a set of orders behind a word. */
+static void print_set(const char *word, uint32_t set) {
+    const char *before = "";
+    printf("%s ", word);
+    if (set == 0) printf("-");
+    for (uint32_t order = 0; order < SM_ORDERS_MOST; order++) {
+        if ((set >> order & 1) == 0) continue;
+        printf("%s%" PRIu32, before, order);
+        before = ",";
     }
 }
 
+/* Prints what a general decides, in a scenario or by a receipt. */
+static void print_decision(const sm_fact *it) {
+    printf("general %" PRIu32, it->general);
+    print_set(" set", it->set);
+    printf(" decides %" PRIu32 "\n", it->order);
+}
+
+/* Prints the decisions of a scenario. */
+static void print_decisions(struct facts facts) {
+    for (const sm_fact *it = facts.at; it != facts.at + facts.count; it++) print_decision(it);
+}
+
+/* Prints what receipts show. */
+static void print_receipts(struct facts facts) {
+    for (const sm_fact *it = facts.at; it != facts.at + facts.count; it++) {
+        if (it->kind == SM_FACT_SHOWN) {
+            print_run_id(it);
+            print_set("shown", it->set);
+            printf("\n");
+        } else if (it->kind == SM_FACT_CONVICTION) {
+            printf("general %" PRIu32 " convicted\n", it->general);
+        } else if (it->number == 1) {
+            print_decision(it);
+        } else {
+            printf("general %" PRIu32 " fails\n", it->general);
+        }
+    }
+    printf("end\n");
+}
+
+/* The jobs. */
+enum job { AUDIT, DECIDE, RECEIPTS, NO_JOB };
+
 /* Answers by facts; returns the exit status. */
-static int answered(int is_audit, int is_strict, struct bytes input) {
-    const sm_options options = {NULL, 0, (uint32_t)is_strict, SM_TEXT};
+static int answered(enum job job, int is_strict, struct bytes input) {
+    const sm_options options = {.strict = (uint32_t)is_strict};
     sm_answer answer = {0};
-    uint32_t status = (is_audit ? sm_audit : sm_decide)(input.at, input.length, &options, &answer);
+    uint32_t status = job == AUDIT    ? sm_audit(input.at, input.length, &options, &answer)
+                      : job == DECIDE ? sm_decide(input.at, input.length, &options, &answer)
+                                      : sm_receipts(input.at, input.length, &options, &answer);
     if (status > SM_NO) return tell(status, &answer);
     struct facts facts = facts_of(&answer);
     sm_answer_free(&answer);
     if (facts.at == NULL) return failed(SM_MEMORY, "memory");
-    if (is_audit)
-        print_verdict(facts, input.length > 3 && memcmp(input.at, "SMC2", 4) == 0, is_strict);
-    else
-        print_decisions(facts);
+    if (job == AUDIT) print_verdict(facts, input.length > 3 && memcmp(input.at, "SMC2", 4) == 0, is_strict);
+    if (job == DECIDE) print_decisions(facts);
+    if (job == RECEIPTS) print_receipts(facts);
     free(facts.at);
     return fflush(stdout) == 0 && !ferror(stdout) ? (int)status : failed(STREAM_FAILED, "write failed");
 }
 
+/* The job that the words ask for. */
+static enum job job_of(int words, char **word, int is_strict) {
+    if (words != (is_strict ? 3 : 2)) return NO_JOB;
+    if (strcmp(word[1], "audit") == 0) return AUDIT;
+    if (is_strict) return NO_JOB;
+    if (strcmp(word[1], "decide") == 0) return DECIDE;
+    return strcmp(word[1], "receipts") == 0 ? RECEIPTS : NO_JOB;
+}
+
 int main(int words, char **word) {
     int is_strict = words == 3 && strcmp(word[2], "--strict") == 0;
-    int is_audit = (words == 2 || is_strict) && strcmp(word[1], "audit") == 0;
-    if (!is_audit && (words != 2 || strcmp(word[1], "decide") != 0))
-        return failed(SM_MISUSE, "usage: typed audit [--strict] or typed decide");
+    enum job job = job_of(words, word, is_strict);
+    if (job == NO_JOB) return failed(SM_MISUSE, "usage: typed audit [--strict] or typed decide|receipts");
     struct bytes input = read_all();
     int told = ferror(stdin)      ? failed(STREAM_FAILED, "read failed")
                : input.at == NULL ? failed(SM_MEMORY, "memory")
-                                  : answered(is_audit, is_strict, input);
+                                  : answered(job, is_strict, input);
     free(input.at);
     return told;
 }

@@ -17,7 +17,8 @@ from man3 import FUNCTION, HEADERS, blocks_of, declared
 from version import TOP, read
 
 EMBED = os.path.join(TOP, "embed")
-sys.path[:0] = [os.path.join(EMBED, "python"), os.path.join(EMBED, "page")]
+sys.path[:0] = [EMBED, os.path.join(EMBED, "python"), os.path.join(EMBED, "page")]
+import example  # noqa: E402
 import make_page  # noqa: E402
 from vamuretu import _faults, _headers, _jobs, _libraries, _nodes  # noqa: E402
 
@@ -54,6 +55,7 @@ RUST_NUMBERS = {"OK": "SM_OK", "NO": "SM_NO", "FAULT": "SM_FAULT", "MEMORY": "SM
                 "FACT_STATUS": "SM_FACT_STATUS", "FACT_DECISION": "SM_FACT_DECISION",
                 "FACT_FINDING": "SM_FACT_FINDING", "FACT_CONVICTION": "SM_FACT_CONVICTION",
                 "FACT_ACROSS": "SM_FACT_ACROSS", "FACT_EQUAL_ROOTS": "SM_FACT_EQUAL_ROOTS",
+                "FACT_SHOWN": "SM_FACT_SHOWN", "FACT_RECEIPT": "SM_FACT_RECEIPT",
                 "VERDICT_AGREED": "SM_VERDICT_AGREED", "VERDICT_EXPLAINED": "SM_VERDICT_EXPLAINED",
                 "VERDICT_NO": "SM_VERDICT_NO"}
 PAGE_NUMBERS = {"YES": "SM_OK", "NO": "SM_NO", "MISUSE": "SM_MISUSE", "FAULT": "SM_FAULT", "MEMORY": "SM_MEMORY",
@@ -220,6 +222,9 @@ def wrong_with_page(script, functions, structs):
     wrong += differs(where, "WITH_OPTIONS", sorted(with_options), sorted(wanted))
     fields = [name for name, said in structs["sm_fact"] if said == "uint32_t"]
     wrong += differs(where, "FACT_FIELDS", list_in(script, "FACT_FIELDS"), fields[: len(list_in(script, "FACT_FIELDS"))])
+    sizes = {"OPTIONS_BYTES": ctypes.sizeof(STRUCTS["sm_options"]), "FACT_BYTES": ctypes.sizeof(STRUCTS["sm_fact"])}
+    told = constants_of(r"\b([A-Z_]+_BYTES) = (\d+)\b", "page/judging.js")
+    wrong += [it for name, size in sizes.items() for it in differs(where, name, told.get(name), size)]
     called = set(re.findall(r'\bof\.(sm_\w+)\(|\(of, (?:\w+, )?"(sm_\w+)"', script))
     lacking = sorted({one or other for one, other in called} - set(make_page.EXPORTS))
     wrong += [f"{where}: {name} is called, and not exported" for name in lacking]
@@ -257,6 +262,8 @@ def wrong_with_structs(structs):
     for name, made in STRUCTS.items():
         wanted = [(it, of_ctypes[said]) for it, said in structs.get(name, ())]
         wrong += differs("embed/python/vamuretu/_libraries.py", name, [tuple(it) for it in made._fields_], wanted)
+        if name == "sm_options":
+            wrong += differs("embed/example.py", name, [tuple(it) for it in example.Options._fields_], wanted)
     folders = [os.path.join(TOP, "crates", name, "src") for name in [*HEADERS, "gen_facts"]]
     folders = [folder for folder in folders if os.path.isdir(folder)]
     sources = [os.path.join(folder, name) for folder in folders for name in sorted(os.listdir(folder))]

@@ -42,16 +42,28 @@ def lines_of_help(source, form):
     return found
 
 
+def generals_of_help(source):
+    """What `--general` is in each command that takes it: that command has its own line of help."""
+    found = {}
+    for call in re.finditer(r'(?<!fn )general_option\(\s*alloc,\s*("[^"]*")', source):
+        command = re.findall(r'CommandBuilder::new\(\s*alloc,\s*"([\w-]+)"', source[:call.start()])[-1]
+        found[command] = plain(call[1])
+    return found
+
+
 def commands():
     """Each command with what it does and its options, and each option with what it is and its values.
 
-    The values are numbers, or the word for them where any can stand, or None where the option takes no value.
+    The values are numbers, or the word for them where any can stand, or None where the option takes no value. An option that
+    another line of help tells in each command stands behind the name of the command.
     """
     text, source = read(DOCUMENT), read(SOURCE)
     heads = {head.split()[0]: re.findall(r"--[\w-]+", head) for head in re.findall(r"^### (.+)$", text, re.MULTILINE)}
     does = lines_of_help(source, r'CommandBuilder::new\(\s*alloc,\s*"([\w-]+)",\s*(\w+)')
     says = lines_of_help(source, r'(?:option|flag)_named\(\s*alloc,\s*"([\w-]+)",(?:\s*"[A-Z]+",)?\s*(\w+|"[^"]*")')
-    options = {}
+    generals = generals_of_help(source)
+    says["general"] = next(iter(generals.values()), None)
+    options = {f"{command} --general": (told, range(16)) for command, told in generals.items()}
     for name, value in re.findall(r"^`(--[\w-]+)( \w+)?`:", text, re.MULTILINE):
         told = says.get(name[2:], GLOBAL.get(name))
         bounds = re.search(r"(\d+) to (\d+)$", told or "")
@@ -60,6 +72,11 @@ def commands():
     if lacking or not heads:
         sys.exit(f"completions: docs/COMMANDS.md and command_line.rt do not both tell of {sorted(lacking) or 'any command'}")
     return {name: (does[name], names) for name, names in heads.items()}, options
+
+
+def option_of(options, command, name):
+    """What an option is in a command, and its values."""
+    return options.get(f"{command} {name}") or options[name]
 
 
 def names_of_words():
@@ -73,7 +90,7 @@ def plain(text):
 
 
 def bash(of_commands, options):
-    values = {name: spelled(values) for name, (_, values) in options.items() if values is not None}
+    values = {name: spelled(values) for name, (_, values) in options.items() if values is not None and " " not in name}
     cases = [f"    {name}) COMPREPLY=($(compgen -W '{some}' -- \"$word\")); return ;;" for name, some in values.items()]
     behind = {"explain": names_of_words()}
     words = [f"    *:{name}) list='{' '.join([*behind.get(name, []), *names, '--help'])}' ;;" for name, (_, names) in of_commands.items()]
@@ -112,7 +129,7 @@ def zsh(of_commands, options):
     told = {name: said for name, (said, _) in of_commands.items()} | OTHERS
     cases = []
     for name, (_, names) in of_commands.items():
-        specs = [f"'{it}{zsh_said(*options[it])}'" for it in names]
+        specs = [f"'{it}{zsh_said(*option_of(options, name, it))}'" for it in names]
         behind = f"'::name:({' '.join(names_of_words())})'" if name == "explain" else FILES if name in SEVERAL else FILE
         cases.append(f"    {name}) _arguments {' '.join([*specs, HELP, behind])} ;;")
     return "\n".join([
@@ -143,7 +160,7 @@ def fish(of_commands, options):
     lines += [f"complete -c sm_tool -l {name[2:]} -d '{said}'" for name, said in GLOBAL.items()]
     for name, (_, names) in of_commands.items():
         for it in names:
-            said, values = options[it]
+            said, values = option_of(options, name, it)
             takes = "" if values is None else " -x" if isinstance(values, str) else f" -x -a '{spelled(values)}'"
             of = f"-n '__fish_seen_subcommand_from {name}' -l {it[2:]}{takes}"
             lines.append(f"complete -c sm_tool {of} -d '{said}'")

@@ -1,6 +1,6 @@
 """Turns, cuts, doubles and moves pieces of inputs, by what is drawn."""
 from campaigns import bytes_of
-from layout import ROOT, Bundle, Log, front_length, header_of, small_in_bundle, small_in_evidence, with_shared_root
+from layout import ROOT, Bundle, Log, front_length, header_of, small_in_bundle, small_in_evidence, small_in_receipt, with_shared_root
 from scenarios import spell_lines
 
 VALUES = [0, 1, 2, 3, 4, 15, 16, 17, 254, 255]
@@ -326,3 +326,22 @@ def bend_evidence(draws, data):
     places = small_in_evidence(data)
     behind = [place for place in places if place >= front_length(data)]
     return bend_small(draws, data, places if draws.is_one_in(5) else behind)
+
+
+# Receipts.
+
+
+def bend_receipts(draws, receipts):
+    """Receipts one behind another with one change, mostly in a small byte of one of them."""
+    if draws.is_one_in(4):
+        return bend_bytes(draws, b"".join(receipts))
+    bent, at = list(receipts), draws.below(len(receipts))
+    if draws.is_one_in(8):
+        bent[at] = draws.one_of([b"SMR3", b"SMB1", b"SMR", bent[at][:3] + bytes([bent[at][3] ^ 3])]) + bent[at][4:]
+    elif draws.is_one_in(8):
+        bent[at] = share_root(draws, bent[at])[0]
+    else:
+        places = small_in_receipt(bent[at])
+        behind = [place for place in places if place >= front_length(bent[at])]
+        bent[at] = bend_small(draws, bent[at], places if draws.is_one_in(5) else behind)
+    return b"".join(bent)

@@ -23,8 +23,9 @@ PYTHON, RUST = os.path.join(EMBED, "python"), os.path.join(EMBED, "rust")
 ARCHIVES = {"sm_embed": JOBS, "sm_node": NODES}
 # Of cargo: nothing is fetched, and nothing is written to the sources.
 OFFLINE = ["--offline", "--locked", "--quiet"]
-WORDS = [["audit"], ["draw"], ["evidence"], ["decide"], ["show"], ["plan"]]
-WORDS += [[it, "--json"] for it in ("audit", "evidence", "decide", "show")] + [["accuse", str(general)] for general in (0, 1, 15)]
+WORDS = [["audit"], ["draw"], ["evidence"], ["receipts"], ["decide"], ["show"], ["plan"]]
+WORDS += [[it, "--json"] for it in ("audit", "evidence", "receipts", "decide", "show")]
+WORDS += [[it, str(general)] for it in ("accuse", "receipt") for general in (0, 1, 15)]
 
 
 def build_libraries(folder, source_of_heap):
@@ -46,10 +47,10 @@ def example_cases():
     return [(job, given) for given in inputs for job in WORDS]
 
 
-def accused(vamuretu, general, given):
-    """The evidence against a general, of which the program has none against one that is none of the run's."""
+def made(vamuretu, call, general, given):
+    """The evidence against a general, or its receipt. The program has none of one that is none of the run's."""
     try:
-        return vamuretu.accuse(general, given)
+        return call(general, given)
     except vamuretu.Nobody:
         return None
 
@@ -62,6 +63,9 @@ def text_of(vamuretu, job, given):
     if job[0] == "plan":
         holds, text = vamuretu.plan(given)
         return int(not holds), text.encode()
+    if job[0] == "receipts":
+        told = vamuretu.receipts(given)
+        return int(told.is_no), (vamuretu.receipts_json(given) if job[1:] else str(told)).encode()
     if job[1:] == ["--json"]:
         line = {"audit": vamuretu.audit_json, "evidence": vamuretu.evidence_json, "decide": vamuretu.decide_json}[job[0]](given)
         is_no = '"holds":false' in line or '"verdict":"no"' in line
@@ -73,8 +77,8 @@ def text_of(vamuretu, job, given):
         return 0, vamuretu.draw(given).encode()
     if job[0] == "decide":
         return 0, "".join(f"{it}\n" for it in vamuretu.decide(given)).encode()
-    if job[0] == "accuse":
-        found = accused(vamuretu, int(job[1]), given)
+    if job[0] in ("accuse", "receipt"):
+        found = made(vamuretu, getattr(vamuretu, job[0]), int(job[1]), given)
         return int(found is None), found or b""
     holds = vamuretu.evidence(given).holds
     return int(not holds), b"evidence holds\n" if holds else b"evidence fails\n"
@@ -98,11 +102,13 @@ def wanted_bundle(program, four):
 def run_wrong(program, vamuretu, support, four):
     """None where the run that the package drives is that of the scenario."""
     wanted = wanted_bundle(program, four)
-    header, logs, orders = support.drive(four)
+    header, logs, orders, receipts = support.drive(four)
     if sorted(logs.items()) != wanted.exhibits:
         return "the logs are others"
     if vamuretu.bundle(header, four.silent, logs.items()) != wanted.spell():
         return "the bundle is another"
+    if vamuretu.shown(header.run_id, b"".join(receipts)) != four.order:
+        return "the receipts do not show the order"
     decided = run(program, ["decide", "--json"], four.scenario()).wrote
     told = {it["general"]: it["order"] for it in json.loads(decided)["decisions"]}
     return None if orders == told else f"they decide {orders}, and the scenario {told}"

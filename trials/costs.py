@@ -71,7 +71,8 @@ def try_workers(counter, text, bundle):
         for workers in WORKERS:
             words = [command, "--workers", str(workers)]
             counter.hold(f"threads of {spell(words)}", counter.asked(words, bundle).threads, workers - 1)
-    for words, given in ((["accuse", "--general", "0"], bundle), (["decide"], text)):
+    receipt = run(counter.program, ["receipt", "--general", "0"], bundle).wrote
+    for words, given in ((["accuse", "--general", "0"], bundle), (["decide"], text), (["receipts"], receipt)):
         counter.hold(f"threads of {spell(words)}", counter.asked(words, given).threads, 0)
     alone = counter.asked(["judge"], text).threads
     for workers in WORKERS[1:]:

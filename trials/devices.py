@@ -26,7 +26,8 @@ def jobs(program, commands):
     evidence = run(program, ["accuse", "--general", "0"], bundle).wrote
     both = [(["decide"], text), (["run"], text), (["judge"], text), (["judge", "--workers", "3"], text)]
     both += [(["audit"], bundle), (["audit", "--workers", "3"], bundle), (["draw"], bundle)]
-    both += [(["accuse", "--general", "0"], bundle), (["run"], sixteen())]
+    both += [(["accuse", "--general", "0"], bundle), (["run"], sixteen()), (["receipt", "--general", "0"], bundle)]
+    both += [(["receipts"], run(program, ["receipt", "--general", "0"], bundle).wrote)]
     both += [(["campaign"], b"campaign 2\n" + b"".join(signed(slot=slot)["pair"] for slot in (1, 2)))]
     both += [(["root"], bytes(range(32))), (["header"], header_text()), (["plan"], header_text())]
     both += [(["bundle", "-"], Bundle(bundle).front[MARK:])]
@@ -222,7 +223,7 @@ def try_terminals(program, tally):
     """Bytes are not written to a terminal, and a command says that it waits for one."""
     text = signed()["split"]
     bundle = run(program, ["run"], text).wrote
-    for words in (["run"], ["campaign"], ["accuse", "--general", "0"], ["run", "missing"]):
+    for words in (["run"], ["campaign"], ["accuse", "--general", "0"], ["receipt", "--general", "0"], ["run", "missing"]):
         end = on_terminal(program, words, b"")
         is_well = end.status == 2 and end.wrote == b"" and end.said.endswith(b"; for more, try '--help'\n")
         tally.hold(f"{' '.join(words)}, bytes to a terminal", None if is_well else f"{end}")
@@ -232,7 +233,7 @@ def try_terminals(program, tally):
     typed, given = from_terminal(program, ["decide"], text), run(program, ["decide"], text)
     is_well = typed.status == 0 and typed.wrote == given.wrote and typed.said.count(b"\n") == 1
     tally.hold("decide, from a terminal", None if is_well else f"{typed}")
-    tally.count(6)
+    tally.count(7)
 
 
 def try_run_ids(program, tally):

@@ -22,20 +22,21 @@ import tempfile
 import time
 import traceback
 
-from bends import bend_bundle, bend_bytes, bend_campaign, bend_evidence, bend_text, share_root
+from bends import bend_bundle, bend_bytes, bend_campaign, bend_evidence, bend_receipts, bend_text, share_root
 from bent import plain_texts, seeded_texts
 from campaigns import bytes_of
 from drawn import COMMANDS, SEVERAL, VERSIONS, WANT_RUNS, campaign_lines, draw_campaign, draw_plan, draw_words
 from drawn import good_options, run_id
 from drawn import spell_lines, spoil_text
 from draws import Draws
-from forging import Forger, compose_evidence, forge_bundle, hold_for_faulty, replayed
+from forging import Forger, compose_evidence, forge_bundle, forge_receipt, hold_for_faulty, replayed
 from layout import MARK, Bundle, front_length
 from programs import End, commands_of, run, shown
 from reference import answer
 from model import words as named
-from model.bundle import read_campaign
+from model.bundle import CAMPAIGN_MARK, read_campaign
 from model.faults import Fault
+from model.receipt import MARKS, read_receipts
 from model.show import shown_runs
 import several
 
@@ -123,6 +124,17 @@ class Block:
         ends = [self.make(["accuse", "--general", str(general)], given) for general in range(6)]
         return [end.wrote for end in ends if end.status == 0]
 
+    @kept
+    def receipts(self, at):
+        """The receipts of a bundle, those of the bundle with changed logs, and some that are signed with the keys of its seed."""
+        draws = Draws(f"{self.name} receipts {at}")
+        _, data, seed = self.bundle(at)
+        forger = Forger(data, seed)
+        given = [data, *(forge_bundle(draws, data, seed) for _ in range(2))]
+        ends = [self.make(["receipt", "--general", str(general)], it) for it in given for general in range(forger.generals)]
+        forged = [forge_receipt(draws, forger) for _ in range(4)]
+        return [end.wrote for end in ends if end.status == 0] + forged
+
 
 # Inputs.
 
@@ -145,7 +157,7 @@ def scenario_input(draws, block, seeded):
 
 def foreign(draws, block):
     """An input of another command."""
-    texts = [spell_lines(draw_campaign(draws, block.seeds[0])), b"", block.bundle(0)[1], *block.evidence(0)]
+    texts = [spell_lines(draw_campaign(draws, block.seeds[0])), b"", block.bundle(0)[1], *block.evidence(0), block.receipts(0)[-1]]
     return draws.one_of(texts)[: draws.one_of([3, 4, 5, 100, 1 << 30])]
 
 
@@ -224,6 +236,29 @@ def evidence_input(draws, block):
     return bend_bytes(draws, made) if draws.is_one_in(10) else made
 
 
+def receipts_input(draws, block):
+    """Receipts of one run, in any order and some of them twice; or bent, or one of another run among them."""
+    way, at = draws.below(16), draws.below(BUNDLES)
+    if way == 0:
+        return foreign(draws, block)
+    known = block.receipts(at)
+    some = [draws.one_of(known) for _ in range(draws.one_of([1, 2, 2, 3, 4, 6]))]
+    if way == 1:
+        some.insert(draws.below(len(some) + 1), draws.one_of(block.receipts(draws.below(BUNDLES))))
+    return bend_receipts(draws, some) if way in (2, 3, 4, 5) else b"".join(some)
+
+
+def receipt_input(draws, block):
+    """A bundle, or seldom a campaign."""
+    given = bundle_input(draws, block)
+    return block.bundle(draws.below(BUNDLES))[1] if given.startswith(CAMPAIGN_MARK) and draws.below(6) else given
+
+
+def accuse_input(draws, block):
+    """A bundle or a campaign, or receipts."""
+    return draws.one_of([bundle_input, bundle_input, receipts_input])(draws, block)
+
+
 def shown_input(draws, block):
     """A bundle, a campaign, evidence, or a header alone, whole or bent."""
     way = draws.below(8)
@@ -284,7 +319,7 @@ def with_equal_roots(draws, lines):
 
 def text_input(draws, block):
     """The text of a verdict, of decisions, of evidence, of a plan or of a file, or a line of a fault, whole or bent."""
-    command = draws.one_of(["audit", "audit", "decide", "evidence", "plan", "show"])
+    command = draws.one_of(["audit", "audit", "decide", "evidence", "plan", "receipts", "show"])
     end = block.make([command], INPUTS[command](draws, block))
     text = end.wrote + end.said
     return bend_text(draws, text) if draws.is_one_in(3) else text
@@ -299,7 +334,8 @@ def name_to_explain(draws):
 
 INPUTS = {
     "decide": decide_input, "run": run_input, "judge": run_input, "campaign": campaign_input,
-    "audit": bundle_input, "draw": bundle_input, "accuse": bundle_input, "evidence": evidence_input,
+    "audit": bundle_input, "draw": bundle_input, "accuse": accuse_input, "evidence": evidence_input,
+    "receipt": receipt_input, "receipts": receipts_input,
     "show": shown_input, "words": text_input, "explain": foreign, "root": root_input, "header": header_input,
     "plan": plan_input,
 }
@@ -308,9 +344,21 @@ INPUTS = {
 def runs_of(given):
     """The ids of the runs that an input is of, as words have them."""
     try:
-        return [run.hex() for run in shown_runs(given)]
+        runs = [read_receipts(given).header.run_id] if is_receipts(given) else shown_runs(given)
+        return [run.hex() for run in runs]
     except Fault:
         return []
+
+
+def is_receipts(given):
+    """Whether an input begins as receipts do."""
+    return given[:4] in MARKS.values()
+
+
+def flag_for(draws, command, given):
+    """The flag by which `accuse` reads receipts, mostly where the input is receipts."""
+    is_told = command == "accuse" and draws.is_one_in(12) != is_receipts(given)
+    return ["--receipts"] if is_told else []
 
 
 class Cases:
@@ -335,7 +383,7 @@ class Cases:
         if command == "explain":
             return [command, name_to_explain(draws)], given, files
         runs = runs_of(given) if command in WANT_RUNS and draws.below(2) else []
-        return [command, *good_options(draws, command, runs)], given, files
+        return [command, *good_options(draws, command, runs), *flag_for(draws, command, given)], given, files
 
 
 # Comparing.

@@ -305,16 +305,20 @@ def spoil_text(draws, text):
 # Words.
 
 COMMANDS = ["decide", "run", "judge", "campaign", "audit", "draw", "accuse", "evidence", "show", "words", "explain"]
-COMMANDS += ["root", "header", "plan", "bundle", "answer"]
+COMMANDS += ["root", "header", "plan", "bundle", "answer", "receipt", "receipts"]
 TAKES = {
     "run": ["capacity"], "judge": ["capacity", "workers"], "campaign": ["capacity"],
     "audit": ["workers"], "draw": ["workers"], "accuse": ["general"], "header": ["slot"], "plan": ["slot"],
+    "receipt": ["general"],
 }
 FLAGS = {
     "decide": ["json"], "run": ["print-run"], "judge": ["strict", "json"], "campaign": ["print-run"],
     "audit": ["strict", "json"], "evidence": ["json"], "show": ["json"], "root": ["tall"], "header": ["print-run"],
+    "receipts": ["json"],
 }
-WANT_RUNS = ["audit", "draw", "accuse", "evidence", "show"]
+WANT_RUNS = ["audit", "draw", "accuse", "evidence", "show", "receipt", "receipts"]
+# The commands of which `--general` is required.
+OF_A_GENERAL = ["accuse", "receipt"]
 WANT_LIST = ["audit", "draw", "bundle"]
 # The commands of several files, whose names stand among the words.
 SEVERAL = ["bundle", "answer"]
@@ -323,7 +327,7 @@ BAD_WORDS = ["", "x", "decide", "-x", "--capacity", "--workers", "--general", "-
              "--all", "-", "--strict", "--strict=1", "--print-run", "--run", "--run=0", "--run=", "/", "--json",
              "--json=1", "--tall", "--tall=6", "--slot", "--slot=4", "--faulty", "--faulty=", "--faulty=0",
              "--faulty=none", "--faulty=none,1", "--faulty=0,0", "--faulty=16", "--faulty=0,", "--faulty=00",
-             "--faulty=1 ,2"]
+             "--faulty=1 ,2", "--receipts", "--receipts=1"]
 BAD_NUMBERS = ["", "00", "01", "+1", "-1", "17", "99", "256", "1x", " 1", "1 ", "1.0", "\uff14", "\u0661",
                "0x1", "9" * 30]
 VERSIONS = [["--version"], ["-V"]]
@@ -387,4 +391,4 @@ def draw_words(draws, command):
         return words + [draws.one_of(BAD_WORDS)]
     if way < 9:
         return words + words[1:]
-    return words if command != "accuse" or draws.below(2) else [command]
+    return words if command not in OF_A_GENERAL or draws.below(2) else [command]

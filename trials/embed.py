@@ -8,6 +8,7 @@ and memcpy, and that it frees all.
 """
 import ctypes
 import importlib.util
+import itertools
 import os
 import re
 import shutil
@@ -131,7 +132,7 @@ def bent_cases(program):
 
 def words_of(job):
     """The program's words for a job of the library."""
-    return [job[0], "--general", job[1]] if job[0] == "accuse" else job
+    return [job[0], "--general", job[1]] if job[0] in ("accuse", "receipt") else job
 
 
 def first_wrong(answered, cases, wanted):
@@ -192,12 +193,15 @@ def try_general(tally, program, native):
     """A general that is none of the run's has a number of its own, and one above 15 is misuse. Runs are compared first."""
     bundle = run(program, ["run"], signed()["split"]).wrote
     own, generals = bytes.fromhex(runs_of(program, bundle)[0]), Bundle(bundle).front[4 + 1]
-    for general in (*range(17), 255, 256, 2**32 - 1):
-        end = run(program, ["accuse", "--general", str(min(general, 15))], bundle)
+    asked = {"accuse": bundle, "receipt": bundle, "accuse --receipts": read("split.receipts")}
+    for (job, given), general in itertools.product(asked.items(), (*range(17), 255, 256, 2**32 - 1)):
+        words, receipts = job.split(), int("--receipts" in job)
+        end = run(program, [*words, "--general", str(min(general, 15))], given)
         wanted = (end.status, end.wrote) if general < generals else (NOBODY if general < 16 else MISUSE, None)
         for ids, told in ((b"", wanted), (own, wanted), (b"\1" * 32, (OTHER, b"fault R1") if general < 16 else wanted)):
-            got = kept_by(native, "sm_accuse", ("number", general), ("input", bundle), ("options", (ids, 0, 0)))
-            tally.hold(f"general {general}, {len(ids)} bytes of ids", None if got == told else f"{got[0]}, not {told[0]}")
+            parts = ("number", general), ("input", given), ("options", (ids, 0, 0, receipts))
+            got = kept_by(native, f"sm_{words[0]}", *parts)
+            tally.hold(f"{job}, general {general}, {len(ids)} bytes of ids", None if got == told else f"{got[0]}, not {told[0]}")
 
 
 def try_reply(tally, program, native):
@@ -208,6 +212,25 @@ def try_reply(tally, program, native):
     for (proof, log), told in {**wanted, (evidence, logs[1]): (NO, b"no answer\n")}.items():
         got = kept_by(native, "sm_refute", ("input", proof), ("input", log))
         tally.hold(f"answer by a log of {len(log)} bytes", None if got == told else f"{got}, not {told}")
+
+
+def receipt_cases(program):
+    """Receipts of runs that are expected, whole, cut and bent; and the bundles that they are of."""
+    draws, given, bundle = Draws("receipts"), read("split.receipts"), read("split.bundle")
+    others = b"".join(run(program, ["receipt", "--general", str(it)], read("disputed.bundle")).wrote for it in range(3))
+    files = [given, others, given + others, given[: len(given) // 3], given[:-1], given + b"x", b"", bundle, b"SMR2" + given[4:]]
+    files += [bend_bytes(draws, draws.one_of([given, given + others])) for _ in range(HUNDRED)]
+    own = ["--run", runs_of(program, bundle)[0]]
+    for it in files:
+        yield from ((["receipts", *asked], it) for asked in ([], ["--json"], own))
+        yield ["accuse", "--receipts", "--general", str(draws.below(4)), *draws.one_of([[], own])], it
+    for asked in (own, ["--run", "0" * 64]):
+        yield from ((["receipts", *asked, *form], given) for form in ([], ["--json"]))
+        yield from ((["receipt", "--general", str(it), *asked], bundle) for it in (0, 2, 3))
+        yield ["accuse", "--receipts", "--general", "0", *asked], given + others
+    yield from ((["receipt", "--general", "1"], read(name)) for name in (*FILES, "split.scenario"))
+    bases = Bases(program)
+    yield from ((["receipt", "--general", str(draws.below(4))], bend_bundle(draws, draws.one_of(bases.bundles))) for _ in range(HUNDRED))
 
 
 def shown_cases(program):
@@ -258,6 +281,7 @@ def kept_cases(program):
     yield from told_cases()
     yield from shown_cases(program)
     yield from plan_cases(program)
+    yield from receipt_cases(program)
     yield from (([*words, "--json"], given) for words, given in told_cases() if words == ["show"])
     for _ in range(HUNDRED):
         bundle, evidence = bend_bundle(draws, draws.one_of(bases.bundles)), bend_evidence(draws, draws.one_of(bases.evidence))
@@ -300,8 +324,9 @@ def with_equal_roots(program):
 
 
 def try_typed(program, tally, typed, cases):
-    """The texts of verdicts and decisions, made of their facts, with the statuses of the program."""
+    """The texts of verdicts, decisions and receipts, made of their facts, with the statuses of the program."""
     texts = [case for case in cases if case[0][0] in ("audit", "decide")]
+    texts += [(words, given) for words, given in receipt_cases(program) if words == ["receipts"]]
     wanted = side_by_side(lambda case: by_library(run(program, case[0], case[1])), texts)
     tally.count(len(texts))
     for number, made in enumerate(typed):
@@ -343,6 +368,12 @@ def try_facts(program, tally, native, cases):
     tally.hold("facts", next(filter(None, wrong), None))
     found = [it[0] for _, given in typed for it in rows_by(native, "sm_audit", given, NOTHING)]
     tally.hold("kinds of facts", None if set(found) == set(range(1, 8)) else f"{set(found)}")
+    of_receipts = [(words, given) for words, given in receipt_cases(program) if words == ["receipts"]]
+    wrong = side_by_side(lambda case: facts_wrong(program, native, *case), of_receipts)
+    tally.count(len(of_receipts))
+    tally.hold("facts of receipts", next(filter(None, wrong), None))
+    found = [it[0] for _, given in of_receipts for it in rows_by(native, "sm_receipts", given, NOTHING)]
+    tally.hold("kinds of facts of receipts", None if set(found) == {5, 8, 9} else f"{set(found)}")
     split = read("split.bundle")
     others = {"sm_draw": split, "sm_evidence": read("split.evidence"), "sm_show": split}
     rows = {name: rows_by(native, name, given, NOTHING) for name, given in others.items()}
@@ -366,6 +397,9 @@ def try_refused_calls(program, tally, folder):
     evidence = run(program, ["accuse", "--general", "0"], split).wrote
     asked = {f"accuse {it}": ("sm_accuse", ("number", it), ("input", split), nothing) for it in (0, 3)}
     asked |= {f"refute by {len(log)}": ("sm_refute", ("input", evidence), ("input", log)) for log in (Bundle(split).exhibits[0][1], b"")}
+    receipts, of_receipts = ("input", read("split.receipts")), ("options", (b"", 0, 0, 1))
+    asked |= {"receipt": ("sm_receipt", ("number", 1), ("input", split), nothing), "receipts": ("sm_receipts", receipts, nothing)}
+    asked |= {"accuse by receipts": ("sm_accuse", ("number", 0), receipts, of_receipts)}
     asked |= {"decide": ("sm_decide", ("input", signed()["split"]), nothing), "audit": ("sm_audit", ("input", split), nothing)}
     for name, call in asked.items():
         wanted, got, count = native.end(*call, ("answer", 0)), None, -1
@@ -380,14 +414,14 @@ def try_refused_calls(program, tally, folder):
 
 def try_options(tally, native):
     """Options that no call takes, a form that is none or more than four run ids: misuse, and nothing is held."""
-    inputs = {"sm_evidence": "split.evidence", "sm_decide": "split.scenario"}
-    for name in ("sm_audit", "sm_draw", "sm_accuse", "sm_evidence", "sm_decide", "sm_show"):
-        front = [("number", 0)] if name == "sm_accuse" else []
+    inputs = {"sm_evidence": "split.evidence", "sm_receipts": "split.receipts", "sm_decide": "split.scenario"}
+    for name in ("sm_audit", "sm_draw", "sm_accuse", "sm_evidence", "sm_receipt", "sm_receipts", "sm_decide", "sm_show"):
+        front = [("number", 0)] if name in ("sm_accuse", "sm_receipt") else []
         given = ("input", read(inputs.get(name, "split.bundle")))
         for asked in ((b"", 0, 2), (b"", 0, 256), (b"", 0, 2**32 - 1), (bytes(5 * 32), 0, 0), (bytes(99 * 32), 1, 1)):
             got = kept_by(native, name, *front, given, ("options", asked))
             tally.hold(f"{name}, {asked[1:]}", None if got == (MISUSE, None) else f"{got[0]}")
-    for name in ("sm_audit", "sm_evidence", "sm_decide", "sm_show"):
+    for name in ("sm_audit", "sm_evidence", "sm_receipts", "sm_decide", "sm_show"):
         held = kept_by(native, name, ("input", read(inputs.get(name, "split.bundle"))), ("options", AS_JSON))[1] or b""
         tally.hold(f"{name} as JSON", None if held.startswith(b"{") and held.endswith(b"}\n") else f"{held[:99]}")
 
@@ -498,6 +532,9 @@ def try_refusals(program, tally, folder, example, answers):
     kept += [(["show", "--json", *asked], split), (["show", "--json"], evidence), (["show", "--run", "0" * 64], split)]
     kept += [(["plan"], it) for it in (header_text(), header_text(signed()["no_walk"]), header_of(split), split)]
     kept += [(["audit", "--strict"], with_shared_root(split, 0, 2))]
+    receipts = read("split.receipts")
+    kept += [(["receipt", "--general", "0"], split), (["receipts"], receipts), (["receipts", "--json"], receipts)]
+    kept += [(["accuse", "--receipts", "--general", "0"], receipts)]
     kept += [(["run-ids"], it) for it in (split, evidence, header_of(split))]
     for program_of, job, given in [*((example, *case) for case in cases), *((answers, *case) for case in kept)]:
         whole = run(program_of, job, given)

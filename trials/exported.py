@@ -30,8 +30,9 @@ ARCHIVE = os.path.join(TOP, "crates", "sm_embed", "out", "libsm_embed.a")
 # The bytes of a run id, and how much is shown of what came.
 ID_BYTES, SHOWN = 32, 60
 # What is given for a number, and in options beside the run ids. The calls that have a form; a form that is none is given to all.
-GENERALS, STRICT, FORMS, NO_FORM = (0, 1, 2, 15, 16), (0, 1), (0, 1), 2
-WITH_FORM, WITH_STRICT = ("sm_audit", "sm_evidence", "sm_decide", "sm_show"), ("sm_audit",)
+GENERALS, STRICT, FORMS, NO_FORM, RECEIPTS = (0, 1, 2, 15, 16), (0, 1), (0, 1), 2, (0, 1)
+WITH_FORM, WITH_STRICT = ("sm_audit", "sm_evidence", "sm_receipts", "sm_decide", "sm_show"), ("sm_audit",)
+WITH_RECEIPTS = ("sm_accuse",)
 OK, NO, LENGTH, OTHER = 0, 1, 5, 7
 OTHER_LINE = b"fault R1"
 KINDS = "12345"
@@ -56,10 +57,9 @@ def declared():
 
 
 CALLS = declared()
-# The calls that compare run ids. Of these the calls that take evidence, and those that take any file; the others take bundles and
-# campaigns.
+# The calls that compare run ids. Of these one takes any file, others take files that begin so, and all others bundles and campaigns.
 OF_RUNS = [name for name, takes in CALLS.items() if "options" in takes and name != "sm_decide"]
-OF_EVIDENCE, OF_ALL = ("sm_evidence",), ("sm_show",)
+OF_ALL, MARKS = ("sm_show",), {"sm_evidence": (b"SME",), "sm_receipts": (b"SMR",), "sm_receipt": (b"SMB",)}
 
 
 # The native library.
@@ -117,11 +117,12 @@ class Native:
 # Cases. A case is the name of a call and what it takes, each as a pair of a kind and a value.
 
 
-def asked_of(name, lists, strict=STRICT, forms=(*FORMS, NO_FORM)):
+def asked_of(name, lists, strict=STRICT, forms=(*FORMS, NO_FORM), receipts=RECEIPTS):
     """What is asked of a call besides the input: each list of run ids, with what the call looks at besides."""
     strict = strict if name in WITH_STRICT else [0]
     forms = forms if name in WITH_FORM else [form for form in forms if form != 1]
-    return [(runs, *others) for runs in lists for others in itertools.product(strict, forms)]
+    receipts = receipts if name in WITH_RECEIPTS else [0]
+    return [(runs, *others) for runs in lists for others in itertools.product(strict, forms, receipts)]
 
 
 def cases_on(given, seconds=(b"",), lists=(b"",), generals=GENERALS, names=CALLS, **asked):
@@ -142,13 +143,13 @@ def own_runs(native, given):
 
 def takes_file(name, given):
     """Whether a call takes files of this kind."""
-    return name in OF_ALL or (name in OF_EVIDENCE) == given.startswith(b"SME")
+    return name in OF_ALL or given.startswith(MARKS.get(name, (b"SMB", b"SMC")))
 
 
 def pinned_on(native, given, lists):
     """The calls that take a file with run ids, of each of these lists."""
     names = [name for name in OF_RUNS if takes_file(name, given)]
-    return cases_on(given, lists=lists, generals=[0], forms=FORMS, names=names)
+    return cases_on(given, lists=lists, generals=[0], forms=FORMS, receipts=[0], names=names)
 
 
 def near_cases(native, given):
@@ -158,7 +159,7 @@ def near_cases(native, given):
 
 
 def bent_file(draws, bases, number):
-    """A bent bundle, bent evidence, or else a bent campaign, header or text."""
+    """A bent bundle, bent evidence, or else bent receipts, a bent campaign, header or text."""
     bundle = draws.one_of(bases.bundles)
     if number % 3 == 0:
         return bend_bundle(draws, bundle)
@@ -166,7 +167,7 @@ def bent_file(draws, bases, number):
         return bend_evidence(draws, draws.one_of(bases.evidence))
     if draws.is_one_in(2):
         return bend_text(draws, draws.one_of(bases.texts))
-    return bend_bytes(draws, draws.one_of([read("series.bundles"), bundle[MARK : front_length(bundle)]]))
+    return bend_bytes(draws, draws.one_of([read("series.bundles"), read("split.receipts"), bundle[MARK : front_length(bundle)]]))
 
 
 def bent_cases(native, bases, seed):

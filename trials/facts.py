@@ -4,7 +4,7 @@ import json
 from vamuretu._libraries import Fact
 
 NAMES = [name for name, _ in Fact._fields_]
-RUN, STATUS, DECISION, FINDING, CONVICTION, ACROSS, EQUAL_ROOTS = range(1, 8)
+RUN, STATUS, DECISION, FINDING, CONVICTION, ACROSS, EQUAL_ROOTS, SHOWN, RECEIPT = range(1, 10)
 VERDICTS = {"agreed": 1, "explained": 2, "no": 3}
 STATUSES = {"convicted": 1, "held for faulty": 2, "suspected": 3, "trusted": 4}
 
@@ -45,9 +45,21 @@ def rows_of_run(run, value):
     yield from (row(CONVICTION, run, general=it["general"], number=int(it["id"][1:])) for it in value["convictions"])
 
 
+def rows_of_receipts(value):
+    """The rows of the object of receipts."""
+    network, run_id = value["network"], bytes.fromhex(value["run"])
+    yield row(SHOWN, set=set_of(value["shown"]), generals=network["generals"], traitors=network["traitors"], run_id=run_id)
+    for it in value["receipts"]:
+        said = {"general": it["general"], "order": it["decides"], "set": set_of(it["set"]), "entry": it["entries"]}
+        yield row(RECEIPT, number=1 if it["holds"] else 2, **said)
+    yield from (row(CONVICTION, general=it, number=1) for it in value["convicted"])
+
+
 def rows_of(text):
-    """The rows of the object of an answer of `audit` or `decide`."""
+    """The rows of the object of an answer of `audit`, `decide` or `receipts`."""
     value = json.loads(text)
+    if value["format"] == "receipts":
+        return list(rows_of_receipts(value))
     if value["format"] == "decisions":
         return [row(DECISION, general=it["general"], order=it["order"], set=set_of(it["set"])) for it in value["decisions"]]
     runs = value.get("runs", [value])

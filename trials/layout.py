@@ -9,6 +9,7 @@ from model.evidence import read_evidence
 from model.faults import Cursor
 from model.log import read_log, read_set, spell_set
 from model.network import read_header
+from model.receipt import read_receipts
 
 MARK, ROOT = 4, 32
 # The fields of the reference's values that are roots, run ids or signatures, and those that are logs as bytes.
@@ -88,6 +89,15 @@ def small_in_bundle(data):
 
 def small_in_evidence(data):
     return small_places(data, read_evidence(data))
+
+
+def small_in_receipt(data):
+    """Those of one receipt. The link is a long part as a root is, but for its first byte."""
+    [receipt] = read_receipts(data).receipts
+    places = range(front_length(data), len(data) - len(receipt.signature))
+    link = places.start + 9
+    header = [place for place in range(front_length(data)) if place < front_length(data) - ROOT * len(header_of(data).roots)]
+    return [*header, *(place for place in places if not link < place < link + ROOT)]
 
 
 def ends_of_parts(places, length):

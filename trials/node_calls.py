@@ -1,4 +1,4 @@
-"""The library of nodes for C (embed/sm_node.h), driven through whole runs by calls: what each node sends, keeps and decides is
+"""The library of nodes for C (embed/sm_node.h), driven through whole runs by calls: what each node sends, keeps, shows and decides is
 what the program's run has, byte for byte.
 
 The frames of a run are put together of its logs, which the reference reads: a SEND says which chain goes where, and a SIGN and
@@ -24,6 +24,7 @@ from scenarios import chain, everybody, scenario
 from model.chain import Chain
 from model.keys import height_of, signature_length
 from model.log import Recv, Send, Sign, read_log
+from model.receipt import receipt_of_log
 
 # The numbers of faults in sm_node.h: there is no node, and those of frames and of bundles behind F0 and B0.
 NO_GENERAL, OTHER_ROOT, F0, B0 = 13, 14, 20, 40
@@ -205,7 +206,7 @@ class Run:
         self.scripts, self.order, self.rounds = scripts or {}, order, traitors + diameter
         self.data = run(program, ["run"], text).wrote
         bundle = Bundle(self.data)
-        self.header, self.faulty = bundle.front[MARK:], int.from_bytes(bundle.faulty, "big")
+        self.header, self.read, self.faulty = bundle.front[MARK:], bundle.header, int.from_bytes(bundle.faulty, "big")
         self.exhibits, self.logs = bundle.exhibits, dict(bundle.exhibits)
         lines = run(program, ["decide"], text).wrote.decode().splitlines()
         self.decided = {int(line.split()[1]): int(line.split()[-1]) for line in lines}
@@ -220,6 +221,10 @@ class Run:
 
     def loyal(self):
         return [general for general in self.logs if general not in self.scripts]
+
+    def receipt(self, general):
+        """The receipt of a general's log."""
+        return receipt_of_log(self.read, general, read_log(self.logs[general], self.read)).spell(self.read)
 
     def frame(self, number, sender, to):
         """The bytes of a frame of this run."""
@@ -252,6 +257,7 @@ def drive(library, of, general, keys=None):
                 sent += len(told)
             node.call("end_round")
         log, order = node.end()
+        same(f"the receipt of {general}", node.text("receipt"), of.receipt(general))
     same(f"the log of {general}", log, of.logs[general])
     same(f"the order of {general}", order, of.decided[general])
     return log, sent

@@ -23,8 +23,10 @@ from processes import try_system, try_with_library, write_seeds
 from programs import run, side_by_side
 from scenarios import chain, scenario
 
-DONE, MISUSE, BAD, REFUSED, SHORT = 0, 2, 3, 4, 5
+DONE, NO, MISUSE, BAD, REFUSED, SHORT, OTHER = 0, 1, 2, 3, 4, 5, 7
 NO_ORDER = 255
+# The bytes of a receipt of two neighbours in version 1.
+RECEIPT = 16_567 + 2 + 2 * 32
 # One call of each library: the root of the keys of general 0, and what is wrong with a bundle of no bytes.
 BOTH = r"""
 #include "sm_embed.h"
@@ -299,11 +301,36 @@ class Run:
             self.ask(general, round=1, is_over=1)
             self.want(DONE, "sm_node_finish", self.at(general))
         logs = [self.text(DONE, "sm_node_log", self.at(general)) for general in range(2)]
+        self.receipts([self.text(DONE, "sm_node_receipt", self.at(general)) for general in range(2)])
         orders = [self.order(general) for general in range(2)]
         if orders != [1, 1]:
             self.wrong.append(f"they decide {orders}")
         self.ask(0, MISUSE)
         return logs, self.bundle(DONE, logs)
+
+    def receipts(self, both):
+        """What the receipts of the two show, of whom nobody is planned to be faulty; and files that show nothing."""
+        one, other = both
+        bent, header = one[:-1] + bytes([one[-1] ^ 1]), 4 + len(self.header)
+        if [len(it) for it in both] != [RECEIPT] * 2 or any(it[:header] != b"SMR1" + self.header for it in both):
+            self.wrong.append("the receipts are others")
+        for given in (one, other, one + other, other + one, one + one, bent + other):
+            self.shown(DONE, given, order=1)
+        self.shown(NO, bent)
+        for given, fault in ((b"", 61), (one[:-1], 61), (one + b"SMR", 61), (b"SMR2" + one[4:], 10), (b"SMR3" + one[4:], 62)):
+            self.shown(BAD, given, fault)
+        for given, fault in ((one[:header] + b"\2" + one[header + 1 :], 64), (one + other[:9] + b"\1" + other[10:], 65)):
+            self.shown(BAD, given, fault)
+        self.shown(OTHER, one, run_id=bytes(32))
+        self.shown(BAD, b"", 61, run_id=bytes(32))
+
+    def shown(self, status, given, fault=0, order=NO_ORDER, run_id=None):
+        """What receipts show of the run of the header, or of another."""
+        told, size, run_id = ctypes.c_uint32(77), ctypes.c_size_t(len(given)), run_id or self.run_id()
+        self.want(status, "sm_node_shown", run_id, given, size, ctypes.byref(told), ctypes.byref(self.fault))
+        self.told(fault)
+        if told.value != order:
+            self.wrong.append(f"the order {told.value}, not {order}")
 
     def number(self, status, name, *words, kind=ctypes.c_uint32):
         """The number that a call tells, which has to answer so; 0 if it is not done."""
@@ -383,7 +410,7 @@ def nothing_there(two):
     """Each call but that which makes a node is refused where none is."""
     for name in ("begin_round", "end_round", "finish"):
         two.want(MISUSE, f"sm_node_{name}", two.at(0))
-    for name, words in (("send", (1,)), ("log", ())):
+    for name, words in (("send", (1,)), ("log", ()), ("receipt", ())):
         two.text(MISUSE, f"sm_node_{name}", two.at(0), *words)
     two.want(MISUSE, "sm_node_order", two.at(0), ctypes.byref(ctypes.c_uint32()))
     two.hear(0, b"", MISUSE)
@@ -469,7 +496,8 @@ def bad_ends(two):
     """A second end, and bundles that aren't made."""
     two.want(DONE, "sm_node_end_round", two.at(0))
     two.want(MISUSE, "sm_node_begin_round", two.at(0))
-    two.text(MISUSE, "sm_node_log", two.at(0))
+    for name in ("log", "receipt"):
+        two.text(MISUSE, f"sm_node_{name}", two.at(0))
     two.want(DONE, "sm_node_finish", two.at(0))
     two.want(MISUSE, "sm_node_finish", two.at(0))
     two.hear(0, b"", MISUSE)

@@ -23,7 +23,8 @@ static int is_line(sm_answer *answer, const char *line) {
 
 /* The jobs take no bytes at null, and no bytes at null that there are; then nothing is held. So it is with run ids. */
 static int jobs(void) {
-    const sm_options none = {0}, missing = {NULL, 1, 0, SM_TEXT}, json = {NULL, 0, 0, SM_JSON};
+    const sm_options none = {0}, missing = {.run_count = 1}, json = {.form = SM_JSON};
+    const sm_options receipts = {.receipts = 1};
     uint8_t byte = 0;
     sm_answer answer = {0};
     WANT(sm_audit(NULL, 0, NULL, &answer) == SM_FAULT && is_line(&answer, "fault B1"));
@@ -40,6 +41,12 @@ static int jobs(void) {
     WANT(sm_accuse(0, NULL, 0, &missing, &answer) == SM_MISUSE && answer.at == NULL);
     WANT(sm_evidence(NULL, 0, NULL, &answer) == SM_FAULT && is_line(&answer, "fault V1"));
     WANT(sm_evidence(NULL, 1, &none, &answer) == SM_MISUSE && answer.at == NULL);
+    WANT(sm_receipt(0, NULL, 0, NULL, &answer) == SM_FAULT && is_line(&answer, "fault B1"));
+    WANT(sm_receipt(16, NULL, 0, NULL, &answer) == SM_MISUSE && answer.at == NULL);
+    WANT(sm_receipt(0, NULL, 1, NULL, &answer) == SM_MISUSE && answer.at == NULL);
+    WANT(sm_receipts(NULL, 0, NULL, &answer) == SM_FAULT && is_line(&answer, "fault Q1"));
+    WANT(sm_receipts(NULL, 1, &none, &answer) == SM_MISUSE && answer.at == NULL);
+    WANT(sm_accuse(0, NULL, 0, &receipts, &answer) == SM_FAULT && is_line(&answer, "fault Q1"));
     WANT(sm_decide(NULL, 0, NULL, &answer) == SM_FAULT && is_line(&answer, "fault P1 line 1"));
     WANT(sm_decide(NULL, 1, NULL, &answer) == SM_MISUSE && answer.at == NULL);
     WANT(sm_show(NULL, 0, NULL, &answer) == SM_NO && answer.at != NULL);
@@ -98,6 +105,10 @@ static int nodes(void) {
     WANT(sm_node_send(&node, 1, NULL, 0, &count) == SM_MISUSE && count == 0);
     WANT(sm_node_hear(&node, 1, NULL, 0, &fault) == SM_MISUSE && fault == 0);
     WANT(sm_node_log(&node, NULL, 0, &count) == SM_MISUSE && count == 0);
+    WANT(sm_node_receipt(&node, NULL, 0, &count) == SM_MISUSE && count == 0);
+    WANT(sm_node_receipt(&node, NULL, 1, &count) == SM_MISUSE && count == 0);
+    WANT(sm_node_shown(id, NULL, 0, &number, &fault) == SM_FAULT && fault == SM_Q1 && number == SM_NO_ORDER);
+    WANT(sm_node_shown(id, NULL, 1, &number, &fault) == SM_MISUSE && fault == 0 && number == SM_NO_ORDER);
     WANT(sm_node_round(&node, &number) == SM_MISUSE && number == 0);
     WANT(sm_node_awaits(&node, 1, &number) == SM_MISUSE && number == 0);
     WANT(sm_node_lacks(&node, 1, &number) == SM_MISUSE && number == 0);
@@ -135,7 +146,7 @@ static int names(void) {
 /* Both archives are of the headers' version, and each number has a text. */
 static int texts(void) {
     WANT(sm_version() == SM_VERSION_NUMBER && sm_node_version() == SM_VERSION_NUMBER);
-    for (uint32_t number = 0; number < 60; number++) WANT(*sm_node_fault_text(number) && *sm_status_text(number));
+    for (uint32_t number = 0; number < 70; number++) WANT(*sm_node_fault_text(number) && *sm_status_text(number));
     WANT(strcmp(sm_status_text(SM_YES), sm_status_text(SM_DONE)) == 0 && SM_SHORT == SM_LENGTH);
     WANT(SM_GENERAL == SM_MISUSE && SM_BAD == SM_FAULT && SM_REFUSED == SM_MEMORY);
     return 0;

@@ -295,6 +295,7 @@ class Within:
 def wanted_of(program, given):
     """What the page has to show for a file: a number and a text."""
     kinds = {b"SMB1": ["audit"], b"SMB2": ["audit"], b"SMC2": ["audit"], b"SME1": ["evidence"], b"SME2": ["evidence"]}
+    kinds |= {b"SMR1": ["receipts"], b"SMR2": ["receipts"]}
     if given[:4] in kinds:
         return spoken(run(program, kinds[given[:4]], given))
     lines = [spoken(run(program, [job], given))[1] for job in ("audit", "evidence")]
@@ -328,13 +329,16 @@ class Given:
 
 def named_files(program):
     """The bundles, the campaign and the evidence of the examples; some of them bent and cut; one that is explained and the
-    evidence that it holds; what is neither.
+    evidence that it holds; receipts of which one order is shown, none, or two; what is none of these.
     """
     kept = [it for it in sorted(os.listdir(EXAMPLES)) if it.endswith((".bundle", ".bundles", ".evidence"))]
     bundle, evidence = read(EXAMPLES, "split.bundle"), read(EXAMPLES, "split.evidence")
     turned = lambda data, at: data[:at] + bytes([data[at] ^ 1]) + data[at + 1 :]
     explained = run(program, ["run"], read(EXAMPLES, "one_too_many.scenario")).wrote
     accused = lambda general: run(program, ["accuse", "--general", str(general)], explained).wrote
+    receipts = [run(program, ["receipt", "--general", str(general)], bundle).wrote for general in range(3)]
+    # The generals ran twice under one header.
+    others = [run(program, ["receipt", "--general", str(general)], read(EXAMPLES, "disputed.bundle")).wrote for general in range(3)]
     return {
         **{name: read(EXAMPLES, name) for name in kept},
         "bent.bundle": turned(bundle, len(bundle) - 1),
@@ -346,6 +350,10 @@ def named_files(program):
         **{f"explained.{general}.evidence": accused(general) for general in (0, 1)},
         "bent.evidence": turned(evidence, len(evidence) - 1),
         "cut.evidence": evidence[:-1],
+        "three.receipts": b"".join(receipts),
+        "one.receipts": receipts[1],
+        "both.receipts": b"".join([*receipts, *others]),
+        "cut.receipts": receipts[0][:-1],
         "README.md": read(TOP, "README.md"),
         "empty": b"",
     }
@@ -373,13 +381,15 @@ def try_answers(told, tally):
     starts = {"split.bundle": "Yes, agreed:", "bent.bundle": "No:", "cut.bundle": "Not judged"}
     starts |= {"series.bundles": "Yes, agreed:", "explained.bundle": "Explained, but not agreed:"}
     starts |= {"README.md": "Neither", "empty": "Neither", "split.evidence": "The evidence against general 0 holds"}
+    starts |= {"three.receipts": "Shown: more than m", "one.receipts": "Not shown: no more than m", "cut.receipts": "Not judged"}
+    starts["both.receipts"] = "Not shown: of each of the orders 0, 1 more"
     starts["bent.evidence"] = "The evidence against general 0 fails"
     for name, start in starts.items():
         tally.hold(f"says of {name}", None if said[name].startswith(start) else said[name])
     for name, it in told.items():
-        wants = re.findall(r"^(?:verdict|general|N|convicted|fault|evidence).*", it["text"], re.M)
+        wants = re.findall(r"^(?:verdict|shown|general|N|convicted|fault|evidence).*", it["text"], re.M)
         tally.hold(f"meanings of {name}", None if it["meanings"] == wants else f"{it['meanings']}")
-        has_run = it["end"] < 2 and not name.endswith(".evidence")
+        has_run = it["end"] < 2 and not name.endswith((".evidence", ".receipts"))
         tally.hold(f"picture of {name}", None if it["drawn"] == has_run else f"{it['drawn']}")
     looks = {it["look"] for it in (told["split.bundle"], told["explained.bundle"], told["disputed.bundle"])}
     tally.hold("looks", None if len(looks) == 3 else f"{looks}")

@@ -3,15 +3,15 @@
 //     node page_calls.mjs PAGE MODULE < CASES > ENDS
 //
 // CASES is a line of JSON, `{"lengths": .., "cases": ..}`, and behind it the texts of these lengths. A case is the name of a call
-// and what it takes, each as a pair: ["input", T] with the number of a text, ["number", N], ["options", [T, S, F]] with the text
-// of the run ids, how strictly and the form, or ["answer", 0]. ENDS is JSON too, with the version of the library, and for each
+// and what it takes, each as a pair: ["input", T] with the number of a text, ["number", N], ["options", [T, S, F, R]] with the
+// text of the run ids, how strictly, the form and whether the input is receipts, or ["answer", 0]. ENDS is JSON too, with the version of the library, and for each
 // case the number, the length of the text that is held, and the SHA-256 and the beginning of the text and the facts behind it. The
 // length is -1 if nothing is held.
 import crypto from "node:crypto";
 import fs from "node:fs";
 import { pageOf } from "./page_module.mjs";
 
-const ID_BYTES = 32, POINTER_BYTES = 8, OPTIONS_BYTES = 24, FACT_BYTES = 88, SHOWN = 60;
+const ID_BYTES = 32, POINTER_BYTES = 8, OPTIONS_BYTES = 32, FACT_BYTES = 88, SHOWN = 60;
 const { of, heldBy, joined, put } = await pageOf(process.argv[2], ["heldBy", "joined", "put"], process.argv[3]);
 const given = fs.readFileSync(0), behind = given.indexOf(10) + 1;
 const { lengths, cases } = JSON.parse(given.subarray(0, behind));
@@ -34,13 +34,14 @@ function answerOf() {
   return { words: [answer.at], read, owned: [answer.at] };
 }
 
-// Options of run ids, how strictly, and the form.
-function optionsOf(runs, strict, form) {
+// Options of run ids, how strictly, the form, and whether the input is receipts.
+function optionsOf(runs, strict, form, receipts = 0) {
   const ids = put(of, texts[runs]), options = new DataView(new ArrayBuffer(OPTIONS_BYTES));
   options.setBigUint64(0, ids.at, true);
   options.setBigUint64(8, ids.length / BigInt(ID_BYTES), true);
   options.setUint32(16, strict, true);
   options.setUint32(20, form, true);
+  options.setUint32(24, receipts, true);
   const { at } = put(of, new Uint8Array(options.buffer));
   return { words: [at], owned: [ids.at, at] };
 }

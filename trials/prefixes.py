@@ -4,7 +4,7 @@ Of scenario texts, and of bundles and evidence up to the end of the header, ever
 that end at a border between parts or beside one, and some more that are drawn.
 """
 from draws import Draws
-from layout import ends_of_parts, front_length, small_in_bundle, small_in_evidence
+from layout import ends_of_parts, front_length, small_in_bundle, small_in_evidence, small_in_receipt
 from programs import differs, fault, run, side_by_side
 from scenarios import scenario, signed, chain
 
@@ -59,6 +59,11 @@ def evidence(program):
     return found
 
 
+def receipts(program):
+    """A receipt of both versions, by name."""
+    return {name: run(program, ["receipt", "--general", "1"], data).wrote for name, data in bundles(program).items()}
+
+
 def trials(program, tally):
     for name, text in texts().items():
         for command in ("decide", "run", "judge"):
@@ -75,3 +80,7 @@ def trials(program, tally):
         cases = byte_cases(data, small_in_evidence(data), "fault V1", "fault V5")
         tally.count(len(cases))
         tally.hold(f"evidence, prefixes of evidence {name}", first_wrong(program, ["evidence"], cases))
+    for name, data in receipts(program).items():
+        cases = byte_cases(data, small_in_receipt(data), "fault Q1", "fault Q1")
+        tally.count(len(cases))
+        tally.hold(f"receipts, prefixes of a receipt {name}", first_wrong(program, ["receipts"], cases))

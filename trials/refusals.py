@@ -108,6 +108,7 @@ def small_cases(program, folder):
     yield from campaign_cases(program)
     yield from prepared_cases(program, folder)
     yield from asked_cases(program)
+    yield from receipt_cases(program)
     yield "faulty text", ["decide"], b"generals 2\nedge 0\n"
     yield "no bundle", ["audit"], b"SMB1\x01"
     yield "help", ["--help"], b""
@@ -174,6 +175,19 @@ def asked_cases(program):
     yield "one slot twice", ["evidence", "--json"], evidence
 
 
+def receipt_cases(program):
+    """Receipts of a run in which a general sealed two logs, and what is made of them."""
+    both = Bundle(run(program, ["run"], signed()["two_heads"]).wrote)
+    given, words = both.spell(), ["receipt", "--general", "1"]
+    first = run(program, words, given).wrote
+    both.exhibits[1:3] = both.exhibits[2:0:-1]
+    receipts = first + run(program, words, both.spell()).wrote + run(program, ["receipt", "--general", "2"], given).wrote
+    yield "two heads", words, given
+    yield from (("two heads", words, receipts) for words in (["receipts"], ["receipts", "--json"]))
+    yield "two heads", ["accuse", "--receipts", "--general", "1"], receipts
+    yield "no receipts", ["receipts", "--json"], receipts[:-1]
+
+
 def written_in(folder, files):
     """The paths of files with these names and bytes, which are written in a folder."""
     paths = {name: os.path.join(folder, name) for name in files}
@@ -213,6 +227,8 @@ def large_cases(program, folder):
         yield "16 generals", words, text
     for words in (["audit"], ["audit", "--workers", "16"], ["draw"], ["accuse", "--general", "0"]):
         yield "16 generals", words, bundle
+    receipts = [run(program, ["receipt", "--general", str(general)], bundle).wrote for general in range(16)]
+    yield "16 generals", ["receipts"], b"".join(receipts)
     for words in (["audit", "--faulty", "15", "--json"], ["show", "--json"]):
         yield "16 generals", words, bundle
     parts = Bundle(bundle)

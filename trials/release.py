@@ -342,6 +342,15 @@ def try_both(prefix, place, tally):
         tally.hold(f"both libraries, {name}", None if (end.status, end.wrote) == (0, wanted) else f"{end}, not {wanted}")
 
 
+def try_actuator(prefix, place, tally):
+    """The example of an actuator, by a compiler alone and with a heap of its own. Without words it stays shut."""
+    embed, made = os.path.join(prefix, "share", "doc", "vamuretu", "embed"), os.path.join(place, "actuator")
+    sources = [os.path.join(embed, f"{name}.c") for name in ("actuator", "arena")]
+    do(["cc", *sources, "-I", os.path.join(prefix, "include"), os.path.join(prefix, "lib", "libsm_node.a"), "-o", made])
+    end = run(made, [])
+    tally.hold("an actuator", None if (end.status, end.wrote) == (1, b"shut\n") else f"{end}")
+
+
 def try_words(program, prefix, tally):
     """Pages of the manual, and completions."""
     there = all_files(os.path.join(prefix, "share", "man", "man3"))
@@ -374,6 +383,7 @@ def try_installed(tree, place, tally):
     try_words(program, prefix, tally)
     try_uses(prefix, place, tally)
     try_both(prefix, place, tally)
+    try_actuator(prefix, place, tally)
     first = all_files(prefix)
     do([os.path.join(tree, "install.sh"), f"PREFIX={prefix}"])
     tally.hold("installed again", None if all_files(prefix) == first else "it has other files")

@@ -18,8 +18,8 @@ from tally import Tally
 
 SUBJECTS = ["scripts", "worked", "walk", "campaigns", "pictures", "prefixes", "vectors", "second_answers", "differs"]
 SUBJECTS += ["json_texts", "costs", "refusals", "slips", "calls", "devices", "load", "archive", "worlds", "embed", "nodes"]
-SUBJECTS += ["node_calls", "datagrams", "shown", "power", "system", "bindings", "page", "release"]
-LIBRARIES = ["worlds", "embed", "nodes", "node_calls", "datagrams", "shown", "power", "system", "bindings", "page", "release"]
+SUBJECTS += ["node_calls", "receipts", "datagrams", "shown", "power", "system", "bindings", "page", "release"]
+LIBRARIES = ["worlds", "embed", "nodes", "node_calls", "receipts", "datagrams", "shown", "power", "system", "bindings", "page", "release"]
 # So many of the slowest subjects are named.
 SLOWEST = 5
 # What no subject takes, in seconds, however busy the machine is: trials that take longer hang.

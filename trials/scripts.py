@@ -61,6 +61,7 @@ NOT_PROVED = 126
 WANTED = ("sh", "find", "readlink", "grep", "python3")
 WITHOUT_KIT = [("decide", "line.scenario"), ("decide line.scenario", None), ("audit --strict --workers 2 disputed.bundle", None)]
 WITHOUT_KIT += [("audit --json -- split.bundle", None), ("draw split.bundle", None), ("evidence", "split.bundle"), ("audit nothing", None)]
+WITHOUT_KIT += [("receipts split.receipts", None), ("accuse --receipts --general 0 split.receipts", None)]
 WITHOUT_KIT += [("answer split.evidence -", "split.bundle"), ("explain N8", None), ("run --help", None), ("help", None), ("nothing", None)]
 # Files of a folder, and for words the copies that a program without proofs is given, with the words that it then gets.
 FILES = ["a", "b/c", "d=e", "program", "-f", "4"]

@@ -48,6 +48,7 @@ WORDS = ["", "walk", "decide x y", "explain x y", "decide --workers 1", "run --c
 WORDS += ["run --capacity 01", "run --capacity x", "run --capacity +1", "audit --workers 0", "audit --workers 17"]
 WORDS += ["judge --capacity 1 --workers 0", "judge --capacity 17 --workers 2", "judge --workers 2 --capacity 0"]
 WORDS += ["audit --workers 1 --workers 1", "accuse", "accuse --general 16", "accuse --general -1", "evidence --general 0"]
+WORDS += ["receipt", "receipt --general 16", "receipts --general 0", "accuse --receipts", "evidence --receipts"]
 
 
 def stored(name):
@@ -223,6 +224,10 @@ def try_help(program, tally):
 # Inputs of another kind than a command reads, as examples: the words, and the second line of standard error.
 OTHERS = [
     ("audit split.evidence", "split.evidence begins as evidence does: see sm_tool evidence"),
+    ("accuse --general 0 split.receipts", "split.receipts begins as receipts do: see sm_tool receipts"),
+    ("accuse --general 0 --receipts split.bundle", "split.bundle begins as a bundle does: see sm_tool audit"),
+    ("receipt --general 0 series.bundles", "series.bundles begins as a campaign does: see sm_tool audit"),
+    ("receipts split.evidence", "split.evidence begins as evidence does: see sm_tool evidence"),
     ("audit line.scenario", "line.scenario begins as a scenario text does: see sm_tool decide"),
     ("decide split.bundle", "split.bundle begins as a bundle does: see sm_tool audit"),
     ("run series.campaign", "series.campaign begins as a campaign text does: see sm_tool campaign"),
@@ -242,12 +247,12 @@ def try_kinds(program, tally):
         told = end.said.decode().splitlines()
         is_well = end.status == 3 and told[0].startswith("fault ") and told[1:] == [line]
         tally.hold(words, None if is_well else f"{end}")
-    for words in ("audit", "decide", "evidence", "show"):
-        for given in (b"", b"SMF1", b"\1\0", b"campaign 1\n", b"generals 2\n", stored("pair.scenario")):
+    for words in ("audit", "decide", "evidence", "receipts", "show"):
+        for given in (b"", b"SMF1", b"SMR1", b"\1\0", b"campaign 1\n", b"generals 2\n", stored("pair.scenario")):
             words_of = [words, "--json", *(["--run", "0" * 64] if words == "show" else [])]
             end, wanted = run(program, words_of, given), reference.answer(words_of, given)
             tally.hold(f"{words} --json, {given[:9]!r}", differs(end, wanted))
-    tally.count(len(OTHERS) + 24)
+    tally.count(len(OTHERS) + 35)
 
 
 def trials(program, tally):

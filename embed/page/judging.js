@@ -6,9 +6,13 @@ const LONGEST = 1073741824;
 // The forms of an answer.
 const TEXT_FORM = 0, JSON_FORM = 1;
 // The bytes of a run id, of a root, of a pointer, of options, of a fact, and of the mark of a file.
-const ID_BYTES = 32, ROOT_BYTES = 32, POINTER_BYTES = 8, OPTIONS_BYTES = 24, FACT_BYTES = 88, MARK_BYTES = 4;
+const ID_BYTES = 32, ROOT_BYTES = 32, POINTER_BYTES = 8, OPTIONS_BYTES = 32, FACT_BYTES = 88, MARK_BYTES = 4;
 // The calls that take options.
-const WITH_OPTIONS = ["sm_audit", "sm_draw", "sm_accuse", "sm_evidence", "sm_decide", "sm_show"];
+const WITH_OPTIONS = ["sm_audit", "sm_draw", "sm_accuse", "sm_evidence", "sm_receipt", "sm_receipts", "sm_decide", "sm_show"];
+// The kinds of files, by the mark that they begin with.
+const KINDS = {
+  SMB1: "bundle", SMB2: "bundle", SMC2: "campaign", SME1: "evidence", SME2: "evidence", SMR1: "receipts", SMR2: "receipts",
+};
 // The kinds of facts that are read here, and the words of verdicts by their numbers.
 const FACT_RUN = 1, FACT_FINDING = 4, FACT_CONVICTION = 5, FACT_ACROSS = 6;
 const VERDICTS = [, "agreed", "explained", "no"];
@@ -71,7 +75,7 @@ function factsIn(bytes) {
   return facts;
 }
 
-// Options in the memory of the module: run ids one after another, which are there already, and a form. Nothing is strict.
+// Options in the memory of the module: run ids one after another, which are there already, and a form. All else is 0.
 function putOptions(of, ids, form) {
   const options = new DataView(new ArrayBuffer(OPTIONS_BYTES));
   options.setBigUint64(0, ids.at, true);
@@ -106,7 +110,7 @@ function told(of, call, text) {
 // What the first four bytes say that a file is.
 function kindOf(given) {
   const mark = String.fromCharCode(...given.subarray(0, 4));
-  return { SMB1: "bundle", SMB2: "bundle", SMC2: "campaign", SME1: "evidence", SME2: "evidence" }[mark] ?? "neither";
+  return KINDS[mark] ?? "neither";
 }
 
 // The evidence against each general that is convicted, weighed by the module as a file of evidence would be.
@@ -147,6 +151,12 @@ function weighed(of, kind, input, runs) {
   return { end: isShort ? MEMORY : FAULT, text: `${textOf(other.bytes)}\n${textOf(bytes)}` };
 }
 
+// The answer on receipts.
+function counted(of, input, runs) {
+  const { end, bytes } = ask(of, "sm_receipts", [input], { runs });
+  return { end, text: textOf(bytes) };
+}
+
 // Of each run the pair of generals that no walk joins, if the verdict says that a walk is missing.
 function partedBy(of, input, runs, facts) {
   if (!facts.some(it => it.kind === FACT_FINDING && it.number === 10)) return [];
@@ -166,7 +176,8 @@ function audited(of, input, runs) {
 // An answer with what the module says of the file that it is about: what is shown of the file, what evidence claims, and
 // the lines of the answer and those beside it with their words.
 function described(of, input, answer, beside = "") {
-  const { end, bytes } = ask(of, "sm_show", [input]), shown = answer.kind === "neither" ? "" : textOf(bytes);
+  const { end, bytes } = ask(of, "sm_show", [input]), isShown = !["neither", "receipts"].includes(answer.kind);
+  const shown = isShown ? textOf(bytes) : "";
   if (end === MEMORY) return { kind: answer.kind, end, text: "", shown: "", words: "" };
   const about = /^kind (\d)/m.exec(shown);
   const claim = about ? told(of, "sm_explain", `K${about[1]}`).split("\n").slice(1).join(" ").trim() : "";
@@ -174,13 +185,18 @@ function described(of, input, answer, beside = "") {
   return { ...answer, shown, claim, words };
 }
 
+// The answer on a file of a kind.
+function answerOn(of, kind, input, runs) {
+  if (kind === "receipts") return counted(of, input, runs);
+  if (kind === "bundle" || kind === "campaign") return audited(of, input, runs);
+  return weighed(of, kind, input, kind === "evidence" ? runs : NOTHING);
+}
+
 // All that the module says of a file that has to be of these runs; of any runs if there are none.
 async function judged(module, given, runs) {
   const of = await freshModule(module), kind = kindOf(given), input = put(of, given);
   if (!input) return { kind, end: MEMORY, text: "", shown: "", words: "" };
-  const isShown = kind === "bundle" || kind === "campaign";
-  const answer = isShown ? audited(of, input, runs) : weighed(of, kind, input, kind === "evidence" ? runs : NOTHING);
-  return described(of, input, { kind, ...answer });
+  return described(of, input, { kind, ...answerOn(of, kind, input, runs) });
 }
 
 // The bundle that shows a log alone, as that of the accused in the run of evidence: all others are held for faulty.

@@ -1,5 +1,5 @@
 #!/usr/bin/env python3
-"""Makes the page: one HTML file that judges bundles, campaigns and evidence in a browser, without a network.
+"""Makes the page: one HTML file that judges bundles, campaigns, evidence and receipts in a browser, without a network.
 
     embed/page/make_page.py OUT.html [MODULE.wasm]
 
@@ -29,7 +29,7 @@ CRATE = "sm_embed"
 # The kits that this was tried with. With another the page has to be tried anew (trials/page.py) before this is changed.
 KITS = ("rattle-kit-13b", "rattle-kit-13f")
 # What the page calls: of the library, and of its heap.
-EXPORTS = ["sm_audit", "sm_accuse", "sm_draw", "sm_evidence", "sm_refute", "sm_show", "sm_explain", "sm_words"]
+EXPORTS = ["sm_audit", "sm_accuse", "sm_draw", "sm_evidence", "sm_receipts", "sm_refute", "sm_show", "sm_explain", "sm_words"]
 EXPORTS += ["sm_answer_text", "sm_answer_facts", "sm_answer_free", "room", "give_back"]
 # The parts of the page's script, in their order.
 SCRIPTS = ["judging.js", "reading.js", "report.js", "page.js"]

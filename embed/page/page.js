@@ -11,7 +11,10 @@ const LACKING = "This browser has no 64-bit memories for WebAssembly, so this pa
 const NO_RUN_ID = "The expected run id is not 64 hexadecimal digits, nor two to four of these with commas between them. "
   + "No file was judged.";
 // The names of the answers in the page's style: agreed, explained, a no, and all else.
-const LOOKS = { agreed: "yes", holds: "yes", answered: "yes", explained: "part", no: "no", fails: "no", unanswered: "no" };
+const LOOKS = {
+  agreed: "yes", holds: "yes", answered: "yes", shown: "yes", explained: "part",
+  no: "no", fails: "no", unanswered: "no", "not shown": "no",
+};
 // Why a log answers nothing, by what is found against the log.
 const REASONS = {
   N4: "the log is of another run or of another general",
@@ -38,11 +41,12 @@ function generalsIn(numbers) {
   return `generals ${numbers.slice(0, -1).join(", ")} and ${numbers.at(-1)}`;
 }
 
-// What an answer comes to: agreed, explained, no, holds, fails, answered or unanswered; nothing where nothing was judged.
+// What an answer comes to, a name of LOOKS; nothing where nothing was judged.
 function outcomeOf({ kind, end, verdicts }) {
   if (end > NO) return "";
   if (kind === "reply") return end === YES ? "answered" : "unanswered";
   if (kind === "evidence") return end === YES ? "holds" : "fails";
+  if (kind === "receipts") return end === YES ? "shown" : "not shown";
   if (end === NO) return "no";
   return verdicts.every(it => it.verdict === "agreed") ? "agreed" : "explained";
 }
@@ -51,10 +55,11 @@ function outcomeOf({ kind, end, verdicts }) {
 function unjudged({ kind, end, text }) {
   if (end === UNASKED) return "Not judged.";
   if (end === MEMORY) return "Not judged: memory was refused.";
-  if (end === OTHER) return `Not judged: the ${kind} is of another run than the one that you expect.`;
-  if (kind === "neither") return "Neither a bundle, nor a campaign, nor evidence.";
+  const [is, has] = kind === "receipts" ? ["are", "have"] : ["is", "has"];
+  if (end === OTHER) return `Not judged: the ${kind} ${is} of another run than the one that you expect.`;
+  if (kind === "neither") return "Neither a bundle, nor a campaign, nor evidence, nor receipts.";
   if (kind === "reply") return `Not judged: the ${text.startsWith("fault V") ? "evidence" : "log"} has a fault.`;
-  return `Not judged: the ${kind} has a fault.`;
+  return `Not judged: the ${kind} ${has} a fault.`;
 }
 
 // The sentence for a bundle.
@@ -97,11 +102,21 @@ function replyHeadline(outcome, answer) {
     + "stands below.";
 }
 
+// The sentence for receipts.
+function receiptsHeadline(outcome, { text }) {
+  const shown = /^shown (.*)$/m.exec(text)[1];
+  if (outcome === "shown") return `Shown: more than m generals have a receipt of order ${shown} that holds.`;
+  if (shown === "-") return "Not shown: no more than m generals have a receipt of one order that holds.";
+  return `Not shown: of each of the orders ${shown.replaceAll(",", ", ")} more than m generals have a receipt that holds. `
+    + "So more than m generals are faulty, or keys were stolen or used twice.";
+}
+
 // The answer in one sentence.
 function headline(outcome, answer) {
   if (!outcome) return unjudged(answer);
   if (answer.kind === "reply") return replyHeadline(outcome, answer);
   if (answer.kind === "evidence") return `The evidence against general ${answer.file.accused} ${outcome}.`;
+  if (answer.kind === "receipts") return receiptsHeadline(outcome, answer);
   return answer.kind === "campaign" ? campaignHeadline(outcome, answer) : bundleHeadline(outcome, answer);
 }
 

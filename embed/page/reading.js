@@ -1,7 +1,7 @@
 // Reads what the proved code writes of a file for the eye: the text of `show`, and the text with words.
 
 // The lines that need words; of others nothing is said.
-const NEED_WORDS = /^(?:verdict|general|N\d|convicted|fault|evidence|forged|collision|no answer)/;
+const NEED_WORDS = /^(?:verdict|shown|general|N\d|convicted|fault|evidence|forged|collision|no answer)/;
 
 const numbersOf = list => (list === "-" ? [] : list.split(",").map(Number));
 

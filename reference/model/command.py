@@ -21,31 +21,35 @@ from .helping import ALL_COMMANDS, VERSION, text_of_program
 from .network import read_header
 from .plan import plan_text, planned_header
 from .prepare import bundle_of_parts, header_of_text, root_text
+from .receipt import RunReceipts, read_receipts, receipt_in, receipts_text
 from .run import play
 from .scenario import read_campaign_text, read_scenario
-from .show import equal_root_lines, listed, shown_lines, shown_runs
+from .show import decision_line, equal_root_lines, shown_lines, shown_runs
 from .words import explain, with_words
 
 LONGEST_INPUT = 1_073_741_824
 ABOUT = b"sm_tool reference: answers from docs/FORMATS.md and docs/PROTOCOL.md; see reference/README.md\n"
 OPTIONS = {
     "decide": (), "run": ("capacity",), "judge": ("capacity", "workers"), "campaign": ("capacity",),
-    "audit": ("workers",), "draw": ("workers",), "accuse": ("general",), "evidence": (), "show": (), "explain": (), "words": (),
-    "root": (), "header": ("slot",), "plan": ("slot",), "bundle": (), "answer": (),
+    "audit": ("workers",), "draw": ("workers",), "accuse": ("general",), "evidence": (), "receipt": ("general",),
+    "receipts": (), "show": (), "explain": (), "words": (), "root": (), "header": ("slot",), "plan": ("slot",), "bundle": (),
+    "answer": (),
 }
 RANGES = {"capacity": (1, 16), "workers": (1, 16), "general": (0, 15), "slot": (0, 3)}
 # Of each command what else it takes: the run ids that are asked for, who is held for faulty, and flags.
 TAKES = {
     "decide": ("json",), "run": ("print-run",), "judge": ("strict", "json"), "campaign": ("print-run",),
-    "audit": ("run", "faulty", "strict", "json"), "draw": ("run", "faulty"), "accuse": ("run",),
-    "evidence": ("run", "json"), "show": ("run", "json"), "root": ("tall",), "header": ("print-run",),
-    "bundle": ("faulty",),
+    "audit": ("run", "faulty", "strict", "json"), "draw": ("run", "faulty"), "accuse": ("run", "receipts"),
+    "evidence": ("run", "json"), "receipt": ("run",), "receipts": ("run", "json"), "show": ("run", "json"), "root": ("tall",),
+    "header": ("print-run",), "bundle": ("faulty",),
 }
-FLAGS = ("strict", "print-run", "json", "tall")
+FLAGS = ("strict", "print-run", "json", "tall", "receipts")
 # The commands of several files: how many words for files they take, at least and at most.
 FILES = {"bundle": (1, None), "answer": (2, 2)}
 # The commands whose output is bytes.
-WRITE_BYTES = ("run", "campaign", "accuse", "header", "bundle")
+WRITE_BYTES = ("run", "campaign", "accuse", "receipt", "header", "bundle")
+# The commands of which `--general` is required.
+OF_A_GENERAL = ("accuse", "receipt")
 MOST_RUNS = 4
 Answer = Tuple[int, bytes, bytes]
 
@@ -215,7 +219,7 @@ def read_words(words: List[str]) -> Job:
     if words[0] not in OPTIONS:
         raise Refused("there is no such command")
     given = _read_options(words[0], words[1:])
-    if words[0] == "accuse" and "general" not in given.options:
+    if words[0] in OF_A_GENERAL and "general" not in given.options:
         raise Refused("--general is missing")
     generals = _generals(words[0], given.files)
     _check_files(words[0], given.files)
@@ -289,8 +293,8 @@ def decide(given: bytes, job: Job) -> Tuple[int, bytes]:
     for general in sorted(sets):
         orders = sorted(sets[general])
         decided = scenario.order if general == 0 else network.decided(orders)
-        lines.append(f"general {general} set {listed(orders)} decides {decided}\n")
-    return 0, "".join(lines).encode("ascii")
+        lines.append(decision_line(general, orders, decided))
+    return 0, "".join(f"{line}\n" for line in lines).encode("ascii")
 
 
 def run(given: bytes, job: Job) -> Tuple[int, bytes]:
@@ -345,8 +349,31 @@ def check_evidence(given: bytes, job: Job) -> Tuple[int, bytes]:
 
 def accuse_general(given: bytes, job: Job) -> Tuple[int, bytes]:
     """The command accuse (FORMATS.md#the-programs-commands)."""
-    evidence = accuse(_judged(given, job)[1], job.numbers["general"])
+    general = job.numbers["general"]
+    evidence = _receipts(given, job).evidence(general) if "receipts" in job.flags else accuse(_judged(given, job)[1], general)
     return (1, b"") if evidence is None else (0, evidence.spell())
+
+
+def _receipts(given: bytes, job: Job) -> RunReceipts:
+    """The receipts that the input is, of the run that is asked for (FORMATS.md#receipts)."""
+    told = read_receipts(given)
+    _check_runs(job.runs, [told.header.run_id])
+    return told
+
+
+def write_receipt(given: bytes, job: Job) -> Tuple[int, bytes]:
+    """The command receipt (FORMATS.md#receipts)."""
+    bundle = read_bundle(given)
+    _check_runs(job.runs, [bundle.header.run_id])
+    receipt = receipt_in(bundle, job.numbers["general"])
+    return (1, b"") if receipt is None else (0, receipt.spell(bundle.header))
+
+
+def tell_receipts(given: bytes, job: Job) -> Tuple[int, bytes]:
+    """The command receipts (FORMATS.md#receipts-text)."""
+    told = _receipts(given, job)
+    text = json_text.line_of(json_text.receipts_value(told)) if "json" in job.flags else receipts_text(told).encode("ascii")
+    return 0 if len(told.shown()) == 1 else 1, text
 
 
 def show(given: bytes, job: Job) -> Tuple[int, bytes]:
@@ -422,7 +449,8 @@ def run_ids_text(job: Job, output: bytes) -> bytes:
 # What the commands do with their input, and those of several files with their inputs.
 COMMANDS: Dict[str, Callable[..., Tuple[int, bytes]]] = {
     "decide": decide, "run": run, "judge": judge_scenario, "campaign": campaign, "audit": audit, "draw": draw,
-    "accuse": accuse_general, "evidence": check_evidence, "show": show, "explain": explain_name, "words": word_text,
+    "accuse": accuse_general, "evidence": check_evidence, "receipt": write_receipt, "receipts": tell_receipts, "show": show,
+    "explain": explain_name, "words": word_text,
     "root": tell_root, "header": make_header, "plan": tell_plan, "bundle": make_bundle, "answer": answer_evidence,
 }
 
@@ -431,11 +459,14 @@ SCENARIOS, JUDGED = ("scenario text",), ("bundle", "campaign")
 # Of each command the kinds of inputs that it reads, and of each kind a command that reads it (FORMATS.md#the-fault).
 READS: Dict[str, Sequence[str]] = {
     "decide": SCENARIOS, "run": SCENARIOS, "judge": SCENARIOS, "header": SCENARIOS, "campaign": ("campaign text",),
-    "audit": JUDGED, "draw": JUDGED, "accuse": JUDGED, "evidence": ("evidence",), "root": (),
+    "audit": JUDGED, "draw": JUDGED, "accuse": JUDGED, "evidence": ("evidence",), "receipt": ("bundle",),
+    "receipts": ("receipts",), "root": (),
     "show": ("bundle", "campaign", "evidence", "header"), "plan": ("bundle", "campaign", "header", "scenario text"),
 }
-READERS = {"bundle": "audit", "campaign": "audit", "evidence": "evidence", "header": "show", "scenario text": "decide",
-           "campaign text": "campaign"}
+READERS = {"bundle": "audit", "campaign": "audit", "evidence": "evidence", "header": "show", "receipts": "receipts",
+           "scenario text": "decide", "campaign text": "campaign"}
+# How a kind that is not one thing begins.
+BEGINS = {"evidence": "evidence does", "receipts": "receipts do"}
 # Of the commands of several files: which of these the faults that begin so are of, and of which kind it is. A log is of no kind,
 # and may begin as a header does.
 WITHIN = {"bundle": {"B3": (0, "header"), "B8": (0, "header")}, "answer": {"V": (0, "evidence"), "L": (1, "header")}}
@@ -455,15 +486,15 @@ def kind_line(name: str, given: bytes, reads: Sequence[str]) -> str:
     kind = json_text.kind_of(given)
     if kind is None or kind in reads:
         return ""
-    begins = kind if kind == "evidence" else f"a {kind}"
+    begins = BEGINS.get(kind) or f"a {kind} does"
     see = f": see sm_tool {READERS[kind]}" if kind in READERS else ", which no command reads"
-    return f"{called(name)} begins as {begins} does{see}\n"
+    return f"{called(name)} begins as {begins}{see}\n"
 
 
 def line_behind(job: Job, inputs: Sequence[bytes], words: str) -> str:
     """The line behind that of a fault, if there is one (FORMATS.md#the-programs-answers)."""
     if job.command not in FILES:
-        return kind_line(job.sources()[0], inputs[0], READS[job.command])
+        return kind_line(job.sources()[0], inputs[0], READS["receipts" if "receipts" in job.flags else job.command])
     for begins, (place, kind) in WITHIN[job.command].items():
         if words.startswith(begins):
             name = job.sources()[place]

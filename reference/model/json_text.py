@@ -1,4 +1,4 @@
-"""JSON: decisions, verdicts and evidence as one line each."""
+"""JSON: decisions, verdicts, evidence and receipts as one line each."""
 
 from __future__ import annotations
 
@@ -12,8 +12,9 @@ from .bundle import CAMPAIGN_MARK, read_bundle, read_campaign, run_bundle
 from .convict import convicted, convicted_across
 from .evidence import Across, Claim, Departing, Evidence, Head, Missing, Signed, read_evidence
 from .follow import plain_sets
-from .network import Network
+from .network import Header, Network
 from .plan import first_pair
+from .receipt import Receipt, RunReceipts, read_receipts
 from .run import play
 from .scenario import read_scenario
 
@@ -52,7 +53,8 @@ def failure_value(line: str, name: Optional[str], kind: Optional[str], status: i
     return {"fault": line, "format": "fault", "kind": kind, "name": name, "status": status, "version": VERSION}
 
 
-MARKS = {b"SMB1": "bundle", b"SMB2": "bundle", b"SMC2": "campaign", b"SME1": "evidence", b"SME2": "evidence", b"SMF1": "frame"}
+MARKS = {b"SMB1": "bundle", b"SMB2": "bundle", b"SMC2": "campaign", b"SME1": "evidence", b"SME2": "evidence", b"SMF1": "frame",
+         b"SMR1": "receipts", b"SMR2": "receipts"}
 OPENINGS = {b"generals ": "scenario text", b"campaign ": "campaign text"}
 
 
@@ -167,6 +169,22 @@ def evidence_value(evidence: Evidence) -> Value:
     }
 
 
+def receipt_value(header: Header, receipt: Receipt) -> Value:
+    """What a receipt says, and whether it holds (FORMATS.md#the-receipts)."""
+    return {"decides": receipt.order, "entries": receipt.entries, "general": receipt.general,
+            "holds": receipt.holds(header), "set": list(receipt.orders)}
+
+
+def receipts_value(told: RunReceipts) -> Value:
+    """The object of receipts (FORMATS.md#the-receipts)."""
+    header = told.header
+    return {
+        "convicted": told.convicted(), "format": "receipts", "network": network_value(header.network),
+        "receipts": [receipt_value(header, receipt) for receipt in told.receipts],
+        "run": header.run_id.hex(), "shown": told.shown(), "version": VERSION,
+    }
+
+
 def decision_value(network: Network, own: int, general: int, orders: Sequence[int]) -> Value:
     """What a general decided; general 0 decides its own order (FORMATS.md#the-decisions)."""
     decided = own if general == 0 else network.decided(orders)
@@ -221,6 +239,12 @@ def check_evidence(given: bytes) -> Tuple[int, bytes]:
     return 0 if value["holds"] else 1, line_of(value)
 
 
+def receipts(given: bytes) -> Tuple[int, bytes]:
+    """The object of receipts (FORMATS.md#the-receipts)."""
+    value = receipts_value(read_receipts(given))
+    return 0 if len(value["shown"]) == 1 else 1, line_of(value)
+
+
 COMMANDS: Dict[str, Callable[[bytes], Tuple[int, bytes]]] = {
-    "decide": decide, "judge": judge_scenario, "audit": audit, "evidence": check_evidence,
+    "decide": decide, "judge": judge_scenario, "audit": audit, "evidence": check_evidence, "receipts": receipts,
 }

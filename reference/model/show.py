@@ -107,6 +107,11 @@ def listed(numbers: Iterable[int]) -> str:
     return ",".join(str(number) for number in numbers) or "-"
 
 
+def decision_line(general: int, orders: Iterable[int], decided: int) -> str:
+    """The line of a general's decision (FORMATS.md#decisions-text)."""
+    return f"general {general} set {listed(orders)} decides {decided}"
+
+
 def equal_root_lines(header: Header) -> List[str]:
     """The lines of the generals that have the same root, pair by pair (FORMATS.md#equal-roots)."""
     return [f"equal roots {first} {second}" for first, second in header.equal_roots()]

@@ -34,7 +34,7 @@ def asked_text(row: Row) -> str:
         return "version" if words[0] == "--version" or words[0].startswith("-V") else "help"
     except Refused as refused:
         return refusal_of(refused)
-    told: List[str] = [job.command]
+    told: List[str] = [job.command, *(flag for flag in job.flags if flag == "receipts")]
     for option in OPTIONS[job.command]:
         told += [option, str(job.numbers.get(option, DEFAULTS.get(option, 1)))]
     return " ".join(told)

@@ -63,9 +63,30 @@ pub enum Job {
         /// The runs that it must be of.
         asked: AskedRuns,
     },
+    /// Reads receipts of a run, and writes the evidence of two of them against a general.
+    AccuseReceipts {
+        /// The general that is accused, 0 to 15.
+        general: GeneralNo,
+        /// The run that they must be of.
+        asked: AskedRuns,
+    },
     /// Reads evidence, and writes whether it holds.
     Evidence {
         /// The run that it must be of.
+        asked: AskedRuns,
+        /// The form of the answer.
+        form: Form,
+    },
+    /// Reads a bundle, and writes the receipt of a general's log.
+    Receipt {
+        /// The general that keeps the log, 0 to 15.
+        general: GeneralNo,
+        /// The run that it must be of.
+        asked: AskedRuns,
+    },
+    /// Reads receipts of a run, and writes which orders they show.
+    Receipts {
+        /// The run that they must be of.
         asked: AskedRuns,
         /// The form of the answer.
         form: Form,

@@ -11,17 +11,17 @@ use Rattle.gen_net.specs.Version.{slot_in, greatest_slot}
 use Rattle.gen_script.specs.Digits.{SpellsBytes}
 use Rattle.gen_scenario.specs.Scenario.{Plain, Scenario}
 use Rattle.gen_campaign.specs.Campaign.{IsSecond}
-use Rattle.gen_report.specs.declared.scenario_text.ScenarioText.TheVariants as texts
-use Rattle.gen_report.specs.Text.{parts}
-use Rattle.gen_report.specs.Fields.{line_of, said, edge_line, text_of}
-use Rattle.gen_report.specs.CursorReading.{numbered}
-use Rattle.gen_report.specs.Scenario.{Given, given_lines, AreBytes, slot_lines, SpellsSigned, SpellsScenario}
-use Rattle.gen_report.proofs.Cuts.{has_part}
-use Rattle.gen_report.proofs.AgainLines.{word, IsLine, said_line, IsGoing, going_behind, numbered_again}
-use Rattle.gen_report.proofs.AgainNumbers.{given_are_lines, plain_again}
-use Rattle.gen_report.proofs.AgainKeys.{seed_fields, seed_again, slot_again}
-use Rattle.gen_report.proofs.AgainBlocks.{end_fields}
-use Rattle.gen_report.proofs.AgainScenario.{append_lines, keys_are_lines, signed_read}
+use Rattle.gen_text.specs.declared.scenario_text.ScenarioText.TheVariants as texts
+use Rattle.gen_text.specs.Text.{parts}
+use Rattle.gen_text.specs.Fields.{line_of, said, edge_line, text_of}
+use Rattle.gen_text.specs.CursorReading.{numbered}
+use Rattle.gen_text.specs.Scenario.{Given, given_lines, AreBytes, slot_lines, SpellsSigned, SpellsScenario}
+use Rattle.gen_text.proofs.Cuts.{has_part}
+use Rattle.gen_text.proofs.AgainLines.{word, IsLine, said_line, IsGoing, going_behind, numbered_again}
+use Rattle.gen_text.proofs.AgainNumbers.{given_are_lines, plain_again}
+use Rattle.gen_text.proofs.AgainKeys.{seed_fields, seed_again, slot_again}
+use Rattle.gen_text.proofs.AgainBlocks.{end_fields}
+use Rattle.gen_text.proofs.AgainScenario.{append_lines, keys_are_lines, signed_read}
 use Rattle.gen_campaign.specs.CampaignText.{HasSlot, SpellsTexts, SpellsCampaignText}
 use Rattle.gen_campaign.specs.CampaignTextReading.{has_generals_of, has_seed_of, comes_after, like_plain_at, like_seed_at, later_slot_at, text_at, texts_at, campaign_text_of}
 use Rattle.gen_campaign.proofs.FoundTexts.{network_generals}

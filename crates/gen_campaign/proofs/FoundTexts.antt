@@ -16,27 +16,27 @@ use Rattle.gen_net.specs.NetworkOf.{ranges_of, network_with, network_of}
 use Rattle.gen_net.specs.Version.{slot_in}
 use Rattle.gen_scenario.specs.Scenario.{Plain, Scenario, IsScenario, scripted}
 use Rattle.gen_campaign.specs.Campaign.{is_run_count, IsSecond}
-use Rattle.gen_report.specs.declared.cursor.Numbered.{Numbered}
-use Rattle.gen_report.specs.declared.fault.LineFault.TheVariants as faults
-use Rattle.gen_report.specs.declared.fault.ScenarioFault.{ScenarioFault}
-use Rattle.gen_report.specs.declared.scenario_text.ScenarioText.TheVariants as texts
-use Rattle.gen_report.specs.Text.{parts}
-use Rattle.gen_report.specs.Fields.{line_of, said, text_of}
-use Rattle.gen_report.specs.Cursor.{Cursor, start_of}
-use Rattle.gen_report.specs.LineReading.{fault_at, number_behind}
-use Rattle.gen_report.specs.CursorReading.{numbered, is_over}
-use Rattle.gen_report.specs.EdgeReading.{edge_lines_at}
-use Rattle.gen_report.specs.NumbersReading.{Opening, numbers_said, opening_behind, opening_at, settings_at, network_at, net_behind, order_at, plain_behind, plain_at}
-use Rattle.gen_report.specs.KeysReading.{seed_at, slot_at, version_with}
-use Rattle.gen_report.specs.BlocksReading.{Blocks, blocks_at, all_scripted}
-use Rattle.gen_report.specs.ScenarioReading.{signed_at}
-use Rattle.gen_report.specs.Scenario.{given_lines, SpellsScenario}
-use Rattle.gen_report.proofs.Cuts.{joined}
-use Rattle.gen_report.proofs.Stepping.{done}
-use Rattle.gen_report.proofs.FoundLines.{NumberOf, numbered_found}
-use Rattle.gen_report.proofs.FoundNumbers.{PlainOf, plain_found}
-use Rattle.gen_report.proofs.FoundKeys.{seed_found}
-use Rattle.gen_report.proofs.FoundScenario.{signed_found, signed_net, ToldOf, told_signed, nothing_left, joined_lines}
+use Rattle.gen_text.specs.declared.cursor.Numbered.{Numbered}
+use Rattle.gen_text.specs.declared.fault.LineFault.TheVariants as faults
+use Rattle.gen_text.specs.declared.fault.ScenarioFault.{ScenarioFault}
+use Rattle.gen_text.specs.declared.scenario_text.ScenarioText.TheVariants as texts
+use Rattle.gen_text.specs.Text.{parts}
+use Rattle.gen_text.specs.Fields.{line_of, said, text_of}
+use Rattle.gen_text.specs.Cursor.{Cursor, start_of}
+use Rattle.gen_text.specs.LineReading.{fault_at, number_behind}
+use Rattle.gen_text.specs.CursorReading.{numbered, is_over}
+use Rattle.gen_text.specs.EdgeReading.{edge_lines_at}
+use Rattle.gen_text.specs.NumbersReading.{Opening, numbers_said, opening_behind, opening_at, settings_at, network_at, net_behind, order_at, plain_behind, plain_at}
+use Rattle.gen_text.specs.KeysReading.{seed_at, slot_at, version_with}
+use Rattle.gen_text.specs.BlocksReading.{Blocks, blocks_at, all_scripted}
+use Rattle.gen_text.specs.ScenarioReading.{signed_at}
+use Rattle.gen_text.specs.Scenario.{given_lines, SpellsScenario}
+use Rattle.gen_text.proofs.Cuts.{joined}
+use Rattle.gen_text.proofs.Stepping.{done}
+use Rattle.gen_text.proofs.FoundLines.{NumberOf, numbered_found}
+use Rattle.gen_text.proofs.FoundNumbers.{PlainOf, plain_found}
+use Rattle.gen_text.proofs.FoundKeys.{seed_found}
+use Rattle.gen_text.proofs.FoundScenario.{signed_found, signed_net, ToldOf, told_signed, nothing_left, joined_lines}
 use Rattle.gen_campaign.specs.CampaignText.{MayPrecede, HasSlot, SpellsTexts, SpellsCampaignText}
 use Rattle.gen_campaign.specs.CampaignTextReading.{has_generals_of, has_seed_of, comes_after, owed, like_plain_at, like_seed_at, later_slot_at, text_at, texts_at, campaign_text_of}
 use Rattle.gen_campaign.proofs.RunCounts.{count_known}

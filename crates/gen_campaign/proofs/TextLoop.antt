@@ -5,8 +5,8 @@ use Rattle.gen_types.specs.declared.reading.ReadError.{ReadError}
 use Rattle.gen_types.specs.declared.reading.ReadError.TheVariants as errors
 use Rattle.gen_types.specs.Reading.{◌>>=◌, Fails}
 use Rattle.gen_scenario.specs.Scenario.{Scenario}
-use Rattle.gen_report.specs.declared.fault.ScenarioFault.{ScenarioFault}
-use Rattle.gen_report.specs.Cursor.{Cursor}
+use Rattle.gen_text.specs.declared.fault.ScenarioFault.{ScenarioFault}
+use Rattle.gen_text.specs.Cursor.{Cursor}
 use Rattle.gen_campaign.specs.CampaignTextReading.{text_at, texts_at}
 
 -- what was read before, and what is still read

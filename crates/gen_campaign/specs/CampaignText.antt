@@ -3,9 +3,9 @@ use Rattle.std.specs.Prelude.{ℕ, ◌≡◌, ◌≤◌, ◌<◌, List, [], ◌�
 use Rattle.gen_net.specs.Version.{slot_in}
 use Rattle.gen_scenario.specs.Scenario.{Scenario}
 use Rattle.gen_campaign.specs.Campaign.{IsSecond, fewest_runs, most_runs}
-use Rattle.gen_report.specs.declared.scenario_text.ScenarioText.TheVariants as texts
-use Rattle.gen_report.specs.Fields.{line_of, said}
-use Rattle.gen_report.specs.Scenario.{SpellsScenario}
+use Rattle.gen_text.specs.declared.scenario_text.ScenarioText.TheVariants as texts
+use Rattle.gen_text.specs.Fields.{line_of, said}
+use Rattle.gen_text.specs.Scenario.{SpellsScenario}
 
 -- the second scenario may stand behind the first in a campaign: both have the same number of generals and
 -- the same seed, and the slot of the second is greater

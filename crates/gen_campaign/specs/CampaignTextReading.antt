@@ -7,14 +7,14 @@ use Rattle.gen_types.specs.Reading.{◌>>=◌, check}
 use Rattle.gen_net.specs.Version.{slot_in}
 use Rattle.gen_scenario.specs.Scenario.{Plain, Scenario}
 use Rattle.gen_campaign.specs.Campaign.{is_run_count}
-use Rattle.gen_report.specs.declared.fault.LineFault.TheVariants.{Shape, Extra, RunCount, Unlike}
-use Rattle.gen_report.specs.declared.fault.ScenarioFault.{ScenarioFault}
-use Rattle.gen_report.specs.Cursor.{Cursor, start_of}
-use Rattle.gen_report.specs.LineReading.{fault_at}
-use Rattle.gen_report.specs.CursorReading.{numbered, is_over}
-use Rattle.gen_report.specs.NumbersReading.{plain_at}
-use Rattle.gen_report.specs.KeysReading.{seed_at, slot_at}
-use Rattle.gen_report.specs.ScenarioReading.{signed_at}
+use Rattle.gen_text.specs.declared.fault.LineFault.TheVariants.{Shape, Extra, RunCount, Unlike}
+use Rattle.gen_text.specs.declared.fault.ScenarioFault.{ScenarioFault}
+use Rattle.gen_text.specs.Cursor.{Cursor, start_of}
+use Rattle.gen_text.specs.LineReading.{fault_at}
+use Rattle.gen_text.specs.CursorReading.{numbered, is_over}
+use Rattle.gen_text.specs.NumbersReading.{plain_at}
+use Rattle.gen_text.specs.KeysReading.{seed_at, slot_at}
+use Rattle.gen_text.specs.ScenarioReading.{signed_at}
 
 -- each of these scenarios has n generals
 abbrev pub has_generals_of : List Scenario → ℕ → Bool

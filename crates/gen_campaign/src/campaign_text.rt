@@ -14,8 +14,8 @@ ghost use Rattle.gen_campaign.specs.CampaignTextReading.{
 
 use crate::campaigns::is_run_count;
 use crate::likeness::{come_before, have_generals, have_seed};
-use gen_report::{Cursor, LineFault, ScenarioFault, read_plain, read_seed, read_signed, read_slot};
 use gen_scenario::{PlainScenario, SignedPlan};
+use gen_text::{Cursor, LineFault, ScenarioFault, read_plain, read_seed, read_signed, read_slot};
 use gen_types::ReadError;
 use std::alloc::Global;
 
@@ -110,7 +110,7 @@ fn whole(alloc: Global, text: &[u8]) -> Result<Vec<SignedPlan>, ReadError<Scenar
 }
 
 /// Returns the scenarios that the text of a campaign spells. The text is a line `campaign N`, N from 1 to
-/// 4, and behind it N scenario texts, as `read_scenario` of `gen_report` reads them, each with a seed and
+/// 4, and behind it N scenario texts, as `read_scenario` of `gen_text` reads them, each with a seed and
 /// a slot. All have the same number of generals and the same seed, and the slots ascend strictly. Lines
 /// count through the whole text.
 ///

@@ -21,6 +21,7 @@ within input (Failed faults.Write) le = le
 within input (Failed (faults.Scenario f)) le = le
 within input (Failed (faults.Campaign f)) le = le
 within input (Failed (faults.Evidence f)) le = le
+within input (Failed (faults.Receipt f)) le = le
 within input (Failed (faults.Log f)) le = le
 within input (Failed (faults.Seed f)) le = le
 within input (Failed (faults.EqualRoots a b)) le = le

@@ -11,6 +11,7 @@ abbrev pub fault_status : JobFault → ℕ
 fault_status (faults.Scenario f) = 3
 fault_status (faults.Campaign f) = 3
 fault_status (faults.Evidence f) = 3
+fault_status (faults.Receipt f) = 3
 fault_status (faults.Log f) = 3
 fault_status (faults.Seed f) = 3
 fault_status (faults.EqualRoots a b) = 3

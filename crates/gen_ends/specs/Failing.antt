@@ -1,9 +1,10 @@
 -- How a job fails if its input can't be read, or an audit or a run can't be made.
 use Rattle.gen_types.specs.declared.reading.ReadError.{ReadError}
 use Rattle.gen_types.specs.declared.reading.ReadError.TheVariants as errors
-use Rattle.gen_report.specs.declared.fault.ScenarioFault.{ScenarioFault}
+use Rattle.gen_text.specs.declared.fault.ScenarioFault.{ScenarioFault}
 use Rattle.gen_campaign.specs.declared.campaign_fault.CampaignFault.{CampaignFault}
 use Rattle.gen_convict.specs.declared.evidence_fault.EvidenceFault.{EvidenceFault}
+use Rattle.gen_receipt.specs.declared.receipt_fault.ReceiptFault.{ReceiptFault}
 use Rattle.gen_prepare.specs.declared.answers.AnswerFault.{AnswerFault}
 use Rattle.gen_prepare.specs.declared.answers.AnswerFault.TheVariants as answers
 use Rattle.gen_audit.specs.declared.bundle_fault.BundleFault.{BundleFault}
@@ -32,6 +33,11 @@ campaign_failure (errors.Fault f) = faults.Campaign f
 abbrev pub evidence_failure : ReadError EvidenceFault → JobFault
 evidence_failure errors.Memory = faults.Memory
 evidence_failure (errors.Fault f) = faults.Evidence f
+
+-- the job's fault for receipts that can't be read
+abbrev pub receipt_failure : ReadError ReceiptFault → JobFault
+receipt_failure errors.Memory = faults.Memory
+receipt_failure (errors.Fault f) = faults.Receipt f
 
 -- the job's fault for a seed that can't be read
 abbrev pub seed_failure : ReadError SeedFault → JobFault

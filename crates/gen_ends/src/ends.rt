@@ -9,7 +9,8 @@ use gen_campaign::CampaignFault;
 use gen_convict::EvidenceFault;
 use gen_log::LogFault;
 use gen_prepare::{AnswerFault, HeaderTextFault, SeedFault};
-use gen_report::ScenarioFault;
+use gen_receipt::ReceiptFault;
+use gen_text::ScenarioFault;
 use gen_threads::RunFault;
 use gen_types::ReadError;
 use std::alloc::AllocError;
@@ -27,6 +28,9 @@ pub enum JobFault {
     /// The input is no evidence.
     #[error("fault {0}")]
     Evidence(EvidenceFault),
+    /// The input is no receipts of a run.
+    #[error("fault {0}")]
+    Receipt(ReceiptFault),
     /// The input is no log of the run of the evidence.
     #[error("fault {0}")]
     Log(LogFault),
@@ -71,6 +75,7 @@ impl JobFault {
             JobFault::Scenario(_)
             | JobFault::Campaign(_)
             | JobFault::Evidence(_)
+            | JobFault::Receipt(_)
             | JobFault::Log(_)
             | JobFault::Seed(_)
             | JobFault::EqualRoots { .. }
@@ -150,6 +155,19 @@ impl From<ReadError<EvidenceFault>> for JobFault {
         match e {
             ReadError::Memory => JobFault::Memory,
             ReadError::Fault(fault) => JobFault::Evidence(fault),
+        }
+    }
+}
+
+impl From<ReadError<ReceiptFault>> for JobFault {
+    ghost use Rattle.gen_ends.specs.Failing.{receipt_failure};
+
+    ghost from_gives = { λ e fault. fault ≡ receipt_failure e };
+
+    fn from(e: ReadError<ReceiptFault>) -> JobFault {
+        match e {
+            ReadError::Memory => JobFault::Memory,
+            ReadError::Fault(fault) => JobFault::Receipt(fault),
         }
     }
 }

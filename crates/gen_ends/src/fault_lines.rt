@@ -1,12 +1,13 @@
 //! The line of the fault of a job.
 ghost use Rattle.std.specs.Prelude.{◌≡◌, ◌++◌, IfOk, OnOk, string_bytes};
-ghost use Rattle.gen_ends.specs.FaultLines.{equal_roots_fault_line, job_fault_line, line_fault_name};
+ghost use Rattle.gen_ends.specs.FaultLines.{equal_roots_fault_line, job_fault_line, line_fault_name, receipt_fault_name};
 
 use crate::ends::JobFault;
 use gen_campaign::push_campaign_fault;
 use gen_file::{push_evidence_fault, push_header_fault, push_log_fault};
-use gen_report::LineFault;
+use gen_receipt::ReceiptFault;
 use gen_script::ScriptFault;
+use gen_text::LineFault;
 use std::alloc::{AllocError, Global};
 
 /// Appends the name of the fault of a line of a text, and, if that is a header's fault or a script's, the name of this
@@ -42,6 +43,23 @@ fn push_line_fault(out: &mut String, fault: LineFault) -> Result<(), AllocError>
     }
 }
 
+/// Appends the name of the fault of receipts, and, if that is a header's fault, the name of this one behind it.
+fn push_receipt_fault(out: &mut String, fault: ReceiptFault) -> Result<(), AllocError>
+    ensures { OnOk result
+        (string_bytes out.new ≡ string_bytes out.old ++ receipt_fault_name fault) }
+{
+    match fault {
+        ReceiptFault::Truncated => out.push_str("Q1"),
+        ReceiptFault::UnknownMark => out.push_str("Q2"),
+        ReceiptFault::BadHeader(inner) => {
+            out.push_str("Q3 ")?;
+            push_header_fault(out, inner)
+        }
+        ReceiptFault::OutOfRange => out.push_str("Q4"),
+        ReceiptFault::OtherRun => out.push_str("Q5"),
+    }
+}
+
 /// Appends the line of the fault that two generals have the same root.
 #[tactic(auto, unfolding(crate::specs::FaultLines::equal_roots_fault_line))]
 fn push_equal_roots(out: &mut String, a: u8, b: u8) -> Result<(), AllocError>
@@ -71,6 +89,10 @@ fn push_job_fault(out: &mut String, fault: JobFault) -> Result<(), AllocError>
         JobFault::Evidence(inner) => {
             out.push_str("fault ")?;
             push_evidence_fault(out, inner)
+        }
+        JobFault::Receipt(inner) => {
+            out.push_str("fault ")?;
+            push_receipt_fault(out, inner)
         }
         JobFault::Log(inner) => {
             out.push_str("fault ")?;

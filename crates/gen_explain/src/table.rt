@@ -13,9 +13,12 @@ end|end|The text on this run ends here.\n\
 equal roots A B|equal roots A B|Generals A and B have the same root: whoever has its keys is counted twice, and two texts that they sign under one leaf give the keys away.\n\
 campaign N|campaign N|The text has the verdicts on N runs, counted from 0.\n\
 end campaign|end campaign|The text on the campaign ends here.\n\
-general G set S decides V|general G set S decides V|In this scenario, general G accepts the orders S and decides order V.\n\
+general G set S decides V|general G set S decides V|In this scenario, or by a receipt that holds, general G accepts the orders S and decides order V.\n\
 holds|evidence holds|The claim is so, and the signatures of its texts and of the head of a log in it verify: the accused signed this, or somebody else has the keys of the accused.\n\
 fails|evidence fails|The claim is not so, or one of its signatures does not verify: this claim is not shown against the accused.\n\
+shown|shown S|More generals than the planned number of traitors show the orders S by receipts that hold, where a hyphen is none.\n\
+general G fails|general G fails|The signature of this receipt does not verify as that of general G: it shows nothing.\n\
+general G convicted|general G convicted|Two receipts with different heads are signed with keys of general G: accuse --receipts writes the evidence.\n\
 forged statement|forged statement order V path P|The evidence has the statement of order V with the path P, signed with keys of the accused, and the log of the accused does not have it.\n\
 forged head|forged head entries N link L|The evidence has the head of a log of N entries with the last link L, signed with keys of the accused, and the log of the accused is another.\n\
 collision|collision A B|These are two different strings of bytes with one hash: A and B.\n\
@@ -92,6 +95,11 @@ V3|V3|The header of the evidence, or the second header of kind 05, has a fault, 
 V4|V4|The accused is none of the network, the kind is none, or a text has a first byte, an order, a length or a path that it cannot have.\n\
 V5|V5|Bytes are left over behind the evidence.\n\
 V6|V6|The header of the second run has another slot, another number of generals or other roots than the first, or is the same.\n\
+Q1|Q1|The input ends before a receipt does.\n\
+Q2|Q2|The first four bytes of a receipt are neither SMR1 nor SMR2. A line behind the fault says what the file is, if its first bytes tell.\n\
+Q3|Q3|The header of a receipt has a fault, which follows.\n\
+Q4|Q4|A receipt has a general or an order that is none of the network.\n\
+Q5|Q5|A receipt has another header than the first.\n\
 L1|L1|The bytes end inside the log, and not inside a chain.\n\
 L2|L2|The first byte of an entry is none of 01 to 05.\n\
 L3|L3|An entry has a general, an order, a length, a path or a set that this run cannot have.\n\
@@ -165,6 +173,7 @@ campaign verdict|campaign verdict|The object of the verdicts on the runs of a ca
 choice|choice|The number of the rule by which a lieutenant decides one of several orders.\n\
 claim|claim|What the evidence says of the accused.\n\
 convictions|convictions|The generals against which the logs hold a contradiction, each with its kind.\n\
+decides|decides|The order that the receipt says its general decided.\n\
 decide|decide|The last entry of a log: which orders the general accepted, and which it decided.\n\
 decided|decided|The order that the log says its general decided.\n\
 decisions|decisions|What generals decided.\n\
@@ -202,6 +211,7 @@ own|own|The order with which the commander began, or null.\n\
 parted|parted|The least two generals of the rest that no walk of few enough edges of the rest joins, or null.\n\
 path|path|The generals that signed the message, in their order.\n\
 place|place|The place of a run in its campaign, counted from 0.\n\
+receipts|receipts|What generals show of the ends of their logs: a file of them, its object, or the list of them.\n\
 recv|recv|An entry for a message that was received.\n\
 root|root|The root of the keys of a general.\n\
 roots|roots|The roots of the keys of all generals, in the order of their numbers.\n\
@@ -241,7 +251,7 @@ verdict|verdict|Whether a run explains the logs: agreed, explained or no.\n\
 version|version|The version of these objects.\n\
 walk|walk|Generals of the rest, each joined to the next by an edge.\n\
 status 0|status 0|The output is whole and is not a no, or a request for help or for the version was answered.\n\
-status 1|status 1|The output is whole and is a no: a verdict, evidence that fails, no evidence against the general, no answer to evidence, a shown file that is not whole, or no such name.\n\
+status 1|status 1|The output is whole and is a no: a verdict, evidence that fails, receipts that do not show one order, no evidence, receipt or answer, a file that is not whole, or no such name.\n\
 status 2|status 2|The words of the command line ask for no job.\n\
 status 3|status 3|The input has a fault, which standard error names.\n\
 status 4|status 4|Memory was refused, or a thread could not be started.\n\

@@ -1,8 +1,8 @@
 -- What an answer says, as rows of numbers.
-use Rattle.std.specs.Prelude.{ℕ, List, [], ◌∷◌, ◌++◌, map, replicate}
+use Rattle.std.specs.Prelude.{ℕ, Bool, true, false, List, [], ◌∷◌, ◌++◌, map, replicate}
 use Rattle.std.specs.List.{range_with_len}
 use Rattle.gen_types.specs.Bits.{bits_of}
-use Rattle.gen_net.specs.Header.{run_id_of}
+use Rattle.gen_net.specs.Header.{RunHeader, run_id_of}
 use Rattle.gen_log.specs.FaultNumbers.{fault_numbers}
 use Rattle.gen_scenario.specs.declared.scenario.Decision.{Decision}
 use Rattle.gen_match.specs.declared.finding.Finding.{Finding}
@@ -132,6 +132,35 @@ across_fact general first second = record (about 6 first general 0) { other = se
 -- two generals that have the same root
 abbrev pub equal_roots_fact : ℕ × ℕ → Fact
 equal_roots_fact pair = record (about 7 0 pair.0 0) { other = pair.1 }
+
+-- ---- the kinds 8 and 9, and 5 again: what receipts show
+
+-- the orders that receipts show, the numbers of the network, and the run id
+abbrev pub shown_fact : RunHeader → List ℕ → Fact
+shown_fact h shown = record no_fact {
+  kind = 8;
+  generals = h.network.generals;
+  traitors = h.network.traitors;
+  set = bits_of shown;
+  run_id = run_id_of h;
+}
+
+-- whether a receipt holds, as a number
+abbrev pub holds_number : Bool → ℕ
+holds_number true = 1
+holds_number false = 2
+
+-- a receipt: the decision that it shows, the number of entries of the log, and whether it holds
+abbrev pub receipt_fact : Decision → ℕ → Bool → Fact
+receipt_fact d entries holds = record (about 9 0 d.general (holds_number holds)) {
+  order = d.order;
+  set = bits_of d.orders;
+  entry = entries;
+}
+
+-- a conviction by two heads, which is of the kind 1
+abbrev pub heads_fact : ℕ → Fact
+heads_fact g = about 5 0 g 1
 
 -- ---- a run
 

@@ -36,6 +36,12 @@ pub(crate) const ACROSS: u32 = 6;
 /// The kind of a fact about two generals that have the same root.
 pub(crate) const EQUAL_ROOTS: u32 = 7;
 
+/// The kind of a fact about the orders that receipts show.
+pub(crate) const SHOWN: u32 = 8;
+
+/// The kind of a fact about a receipt.
+pub(crate) const RECEIPT: u32 = 9;
+
 /// A fact in which every field is 0.
 pub(crate) const NO_FACT: Fact = Fact {
     kind: 0,
@@ -60,7 +66,7 @@ pub(crate) const NO_FACT: Fact = Fact {
 #[derive(Clone, Copy, Debug, PartialEq, Eq)]
 pub struct Fact {
     /// What the fact is about: 1 a run, 2 the status of a general, 3 a decision, 4 a finding, 5 a conviction, 6 a
-    /// conviction across two runs, 7 two generals that have the same root.
+    /// conviction across two runs, 7 two generals that have the same root, 8 the orders that receipts show, 9 a receipt.
     pub kind: u32,
     /// The place of the run in its campaign, and 0 for a run on its own. Of a conviction across two runs, that of the
     /// first.
@@ -71,9 +77,10 @@ pub struct Fact {
     /// second run.
     pub other: u32,
     /// Of a run its verdict: 1 `agreed`, 2 `explained`, 3 `no`. Of a status: 1 convicted, 2 held for faulty, 3
-    /// suspected, 4 trusted. Of a finding 1 to 11, for N1 to N11. Of a conviction 1 to 4, for K1 to K4.
+    /// suspected, 4 trusted. Of a finding 1 to 11, for N1 to N11. Of a conviction 1 to 4, for K1 to K4. Of a receipt: 1
+    /// it holds, 2 it fails.
     pub number: u32,
-    /// The order that was agreed on, that a general decided, or that a message has.
+    /// The order that was agreed on, that a general decided, or that a message has. Of a receipt the order that it says.
     pub order: u32,
     /// The round of a message.
     pub round: u32,
@@ -81,16 +88,16 @@ pub struct Fact {
     pub log_fault: u32,
     /// Of a log that breaks L5 the rule that its chain breaks: 1 to 5, for C1 to C5.
     pub chain_fault: u32,
-    /// Of a run, how many generals its network has.
+    /// Of a run, and of the orders that receipts show, how many generals the network has.
     pub generals: u32,
-    /// Of a run, how many traitors its network is for.
+    /// Of a run, and of the orders that receipts show, how many traitors the network is for.
     pub traitors: u32,
-    /// Of a run the generals that are held for faulty: bit g is that of general g. Of a decision in a scenario the
-    /// orders that the general accepted: bit v is that of order v.
+    /// Of a run the generals that are held for faulty: bit g is that of general g. Of a decision in a scenario, and of a
+    /// receipt, the orders that the general accepted: bit v is that of order v. Of what receipts show these orders.
     pub set: u32,
-    /// Of the findings N5 and N7 the entry of the log, counted from 0.
+    /// Of the findings N5 and N7 the entry of the log, counted from 0. Of a receipt the number of entries of the log.
     pub entry: u64,
-    /// The run id of a run, and 32 zero bytes in every other fact.
+    /// The run id of a run, and of the run of which receipts show orders. 32 zero bytes in every other fact.
     pub run_id: [u8; 32],
 }
 

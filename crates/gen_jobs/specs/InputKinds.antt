@@ -31,6 +31,7 @@ kind_of bytes =
     if begins_with (codes "SMB1") bytes || begins_with (codes "SMB2") bytes then Some kinds.Bundle
     else if begins_with (codes "SMC2") bytes then Some kinds.Campaign
     else if begins_with (codes "SME1") bytes || begins_with (codes "SME2") bytes then Some kinds.Evidence
+    else if begins_with (codes "SMR1") bytes || begins_with (codes "SMR2") bytes then Some kinds.Receipts
     else if begins_with (codes "SMF1") bytes then Some kinds.Frame
     else if begins_header bytes then Some kinds.Header
     else text_kind bytes
@@ -40,6 +41,7 @@ abbrev pub kind_words : InputKind → List ℕ
 kind_words kinds.Bundle = codes "bundle"
 kind_words kinds.Campaign = codes "campaign"
 kind_words kinds.Evidence = codes "evidence"
+kind_words kinds.Receipts = codes "receipts"
 kind_words kinds.Frame = codes "frame"
 kind_words kinds.Header = codes "header"
 kind_words kinds.ScenarioText = codes "scenario text"
@@ -50,6 +52,7 @@ abbrev pub kind_command : InputKind → Option (List ℕ)
 kind_command kinds.Bundle = Some (codes "audit")
 kind_command kinds.Campaign = Some (codes "audit")
 kind_command kinds.Evidence = Some (codes "evidence")
+kind_command kinds.Receipts = Some (codes "receipts")
 kind_command kinds.Frame = None
 kind_command kinds.Header = Some (codes "show")
 kind_command kinds.ScenarioText = Some (codes "decide")

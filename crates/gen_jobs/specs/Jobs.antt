@@ -4,6 +4,9 @@ use Rattle.gen_judging.specs.Asking.{IsAccusedOf, IsAuditedBy, IsCheckedIn, IsDr
 use Rattle.gen_jobs.specs.Judging.{IsJudgedAs}
 use Rattle.gen_judging.specs.Audit.{ByWorkers}
 use Rattle.gen_making.specs.Campaigning.{IsCampaignFault, IsCampaignRun}
+use Rattle.gen_receipting.specs.Accusing.{AccusesByReceipts}
+use Rattle.gen_receipting.specs.Giving.{IsReceiptFault, IsReceiptIn}
+use Rattle.gen_receipting.specs.Telling.{AreReceiptsFault, AreReceiptsTold}
 use Rattle.gen_telling.specs.Decide.{IsDecidedIn, IsDecideFault}
 use Rattle.gen_jobs.specs.Planning.{IsPlan, IsPlanFault}
 use Rattle.gen_making.specs.Preparing.{IsHeaderFault, IsHeaderOf, IsRoot, IsRootFault}
@@ -26,7 +29,12 @@ JobAnswers (jobs.Audit w asked strict form) name input text negative =
     IsAuditedBy asked form strict name input text negative
 JobAnswers (jobs.Draw w asked) name input text negative = IsDrawnBy asked input text negative
 JobAnswers (jobs.Accuse g asked) name input text negative = IsAccusedOf asked g input text negative
+JobAnswers (jobs.AccuseReceipts g asked) name input text negative =
+    AccusesByReceipts asked g input text negative
 JobAnswers (jobs.Evidence asked form) name input text negative = IsCheckedIn form asked input text negative
+JobAnswers (jobs.Receipt g asked) name input text negative = IsReceiptIn asked g input text negative
+JobAnswers (jobs.Receipts asked form) name input text negative =
+    AreReceiptsTold form asked input text negative
 JobAnswers (jobs.Show asked form) name input text negative = IsShownIn form asked input text negative
 JobAnswers (jobs.Root height) name input text negative = IsRoot height input text negative
 JobAnswers (jobs.Header version) name input text negative = IsHeaderOf version input text negative
@@ -42,7 +50,10 @@ JobFails (jobs.Campaign n) input fault = IsCampaignFault input fault
 JobFails (jobs.Audit w asked strict form) input fault = ByWorkers w (IsHeldFault asked input) fault
 JobFails (jobs.Draw w asked) input fault = ByWorkers w (IsHeldFault asked input) fault
 JobFails (jobs.Accuse g asked) input fault = ByWorkers 1 (IsShowFault asked input) fault
+JobFails (jobs.AccuseReceipts g asked) input fault = AreReceiptsFault asked input fault
 JobFails (jobs.Evidence asked form) input fault = IsEvidenceFaultOf asked input fault
+JobFails (jobs.Receipt g asked) input fault = IsReceiptFault asked input fault
+JobFails (jobs.Receipts asked form) input fault = AreReceiptsFault asked input fault
 JobFails (jobs.Show asked form) input fault = IsShownFault asked input fault
 JobFails (jobs.Root height) input fault = IsRootFault height input fault
 JobFails (jobs.Header version) input fault = IsHeaderFault version input fault

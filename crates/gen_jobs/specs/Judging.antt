@@ -2,8 +2,8 @@
 use Rattle.std.specs.Prelude.{ℕ, Bool, List, Option}
 use Rattle.gen_plan.specs.EqualRoots.{equal_roots}
 use Rattle.gen_scenario.specs.Scenario.{Scenario, header_of, scripted}
-use Rattle.gen_report.specs.Scenario.{SpellsScenario}
-use Rattle.gen_report.specs.declared.scenario_text.ScenarioText.TheVariants as texts
+use Rattle.gen_text.specs.Scenario.{SpellsScenario}
+use Rattle.gen_text.specs.declared.scenario_text.ScenarioText.TheVariants as texts
 use Rattle.gen_audit.specs.WorldBundle.{HasWalks, bundle_of}
 use Rattle.gen_json.specs.OriginData.{Origin}
 use Rattle.gen_judging.specs.Asking.{Counts, has_few}

@@ -35,6 +35,7 @@ source_of (Some kinds.Bundle) = OfShown
 source_of (Some kinds.Campaign) = OfShown
 source_of (Some kinds.Header) = OfHeader
 source_of (Some kinds.Evidence) = OfText
+source_of (Some kinds.Receipts) = OfText
 source_of (Some kinds.Frame) = OfText
 source_of (Some kinds.ScenarioText) = OfText
 source_of (Some kinds.CampaignText) = OfText

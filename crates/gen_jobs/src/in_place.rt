@@ -14,6 +14,7 @@ use gen_ends::{JobEnd, JobFault, Output, deliver, read_all};
 use gen_facts::Fact;
 use gen_judging::{accuse_in_place, audit_in_place, draw_in_place, evidence};
 use gen_making::{header, root};
+use gen_receipting::{accuse_by_receipts, receipt, receipts};
 use gen_telling::{decide, show, tell};
 use std::alloc::Global;
 use std::io::{Read, Write};
@@ -23,7 +24,7 @@ use std::io::{Read, Write};
 pub struct Answered {
     /// The text, and whether it says no.
     pub output: Output,
-    /// What was judged or decided; nothing if the job neither judges nor decides.
+    /// What was judged, decided or shown; nothing if the job neither judges nor decides, nor tells what receipts show.
     pub facts: Vec<Fact>,
 }
 
@@ -54,7 +55,10 @@ pub(crate) fn output_in_place(
         } => audit_in_place(alloc, &asked, form, strict, name, input, facts),
         Job::Draw { workers: _, asked } => draw_in_place(alloc, &asked, input),
         Job::Accuse { general, asked } => accuse_in_place(alloc, asked, general, input),
+        Job::AccuseReceipts { general, asked } => accuse_by_receipts(alloc, asked, general, input),
         Job::Evidence { asked, form } => evidence(alloc, form, asked, input),
+        Job::Receipt { general, asked } => receipt(alloc, asked, general, input),
+        Job::Receipts { asked, form } => receipts(alloc, form, asked, input, facts),
         Job::Show { asked, form } => show(alloc, form, asked, input),
         Job::Root { height } => root(alloc, height, input),
         Job::Header { version } => header(alloc, version, input),
@@ -68,8 +72,8 @@ pub(crate) fn output_in_place(
 /// name, if it has one.
 ///
 /// `audit` tells the facts of the judgement on each run, of the convictions across two runs, and of the pairs of generals
-/// that have the same root. `decide` tells the facts of the decisions. Every other job tells none. The form and what
-/// counts as a no change no fact.
+/// that have the same root. `decide` tells the facts of the decisions, and `receipts` those of what receipts show. Every
+/// other job tells none. The form and what counts as a no change no fact.
 ///
 /// # Errors
 ///

@@ -13,6 +13,8 @@ pub enum InputKind {
     Campaign,
     /// Evidence: it begins with `SME1` or `SME2`.
     Evidence,
+    /// Receipts of logs: they begin with `SMR1` or `SMR2`.
+    Receipts,
     /// A frame of a node: it begins with `SMF1`.
     Frame,
     /// A header: its first byte is 1 or 2.
@@ -61,6 +63,8 @@ pub fn input_kind(first: &[u8]) -> Option<InputKind>
         Some(InputKind::Campaign)
     } else if begins_with(b"SME1", first) || begins_with(b"SME2", first) {
         Some(InputKind::Evidence)
+    } else if begins_with(b"SMR1", first) || begins_with(b"SMR2", first) {
+        Some(InputKind::Receipts)
     } else if begins_with(b"SMF1", first) {
         Some(InputKind::Frame)
     } else if begins_header(first) {
@@ -79,6 +83,7 @@ impl InputKind {
             InputKind::Bundle => "bundle",
             InputKind::Campaign => "campaign",
             InputKind::Evidence => "evidence",
+            InputKind::Receipts => "receipts",
             InputKind::Frame => "frame",
             InputKind::Header => "header",
             InputKind::ScenarioText => "scenario text",
@@ -93,6 +98,7 @@ impl InputKind {
         match self {
             InputKind::Bundle | InputKind::Campaign => Some("audit"),
             InputKind::Evidence => Some("evidence"),
+            InputKind::Receipts => Some("receipts"),
             InputKind::Frame => None,
             InputKind::Header => Some("show"),
             InputKind::ScenarioText => Some("decide"),

@@ -1,9 +1,9 @@
-//! The jobs that can be done with an input: decide, run, judge, run a campaign, audit, draw, accuse, show, tell, and
-//! check evidence.
+//! The jobs that can be done with an input: decide, run, judge, run a campaign, audit, draw, accuse, show, tell, check
+//! evidence, make a receipt of a log, and tell what receipts show.
 //!
 //! `answer` takes a `Job` and the bytes of an input, and returns the text that answers it or its first fault;
-//! `answer_in_place` does so without threads, and tells what was judged or decided as rows of numbers too. They need no
-//! reader, no writer and no words of a command line.
+//! `answer_in_place` does so without threads, and tells what was judged, decided or shown as rows of numbers too. They need
+//! no reader, no writer and no words of a command line.
 //! Beside them stand the engines, which read an input to its end and write the answer; `do_job` does so for any
 //! `Job`. A contract of an engine says what is appended to what the writer held, as far as reader and writer are known,
 //! and that nothing is written before the text is whole. It doesn't say when a reader, a writer, memory or a thread

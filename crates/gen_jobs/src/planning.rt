@@ -38,6 +38,7 @@ fn source_of(input: &[u8]) -> PlanSource
         Some(InputKind::Header) => PlanSource::OfHeader,
         Some(
             InputKind::Evidence
+            | InputKind::Receipts
             | InputKind::Frame
             | InputKind::ScenarioText
             | InputKind::CampaignText,

@@ -6,6 +6,4 @@ pub mod PlainDecisions
 pub mod PlainEvidence
 pub mod PlainLogs
 pub mod PlainOrigins
-pub mod PlainVerdicts
-pub mod Ranges
 pub mod ShownValues

@@ -4,10 +4,7 @@ pub mod DecidedLogs
 pub mod DecisionData
 pub mod EvidenceData
 pub mod FailureData
-pub mod FindingData
 pub mod JsonData
 pub mod Line
 pub mod LineLists
 pub mod OriginData
-pub mod StatusData
-pub mod VerdictData

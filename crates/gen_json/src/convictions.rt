@@ -38,10 +38,11 @@ pub fn conviction_value(alloc: Global, evidence: &Evidence) -> Result<Value, All
 }
 
 /// Returns the list of convictions.
-pub(crate) fn convictions_value(
-    alloc: Global,
-    convictions: &[Evidence],
-) -> Result<Value, AllocError>
+///
+/// # Errors
+///
+/// `AllocError` if memory is refused.
+pub fn convictions_value(alloc: Global, convictions: &[Evidence]) -> Result<Value, AllocError>
     ensures { IfOk result (λ v. view v ≡ list_of conviction_data (map told_of convictions.now)) }
 {
     let mut list = Vec::new(alloc);

@@ -46,11 +46,11 @@ fn push_decision(
 }
 
 /// Returns what each log that reads decided, in the order of the exhibits.
-pub(crate) fn logs_value(
-    alloc: Global,
-    header: &Header,
-    exhibits: &[Exhibit],
-) -> Result<Value, AllocError>
+///
+/// # Errors
+///
+/// `AllocError` if memory is refused.
+pub fn logs_value(alloc: Global, header: &Header, exhibits: &[Exhibit]) -> Result<Value, AllocError>
     ensures { IfOk result (λ v. view v ≡ logs_data header.now exhibits.now) }
 {
     let mut list = Vec::new(alloc);

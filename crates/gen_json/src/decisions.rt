@@ -15,7 +15,11 @@ use serde_json::Value;
 use std::alloc::{AllocError, Global};
 
 /// Returns the list of which orders generals decided.
-pub(crate) fn all_decided_value(alloc: Global, decisions: &[Decision]) -> Result<Value, AllocError>
+///
+/// # Errors
+///
+/// `AllocError` if memory is refused.
+pub fn all_decided_value(alloc: Global, decisions: &[Decision]) -> Result<Value, AllocError>
     ensures { IfOk result (λ v. view v ≡ list_of decided_data decisions.now) }
 {
     let mut list = Vec::new(alloc);

@@ -1,11 +1,11 @@
-//! Prints decisions, a verdict on a bundle, evidence and faults as JSON, by the kit's `serde_json`.
+//! Prints decisions, evidence and faults as JSON, by the kit's `serde_json`.
 //!
 //! The text of each is one line: a JSON object without spaces, whose fields stand in the order of their names, and a line
 //! feed. A contract says of each text which value it is the text of, and that a reader of JSON finds this value in it.
 //! So two lines are equal if and only if their values are.
 //!
-//! `gen_json_files` makes further lines of the parts that stand here: objects that are made field by field, numbers,
-//! sets and digits, and the object of a judgement.
+//! `gen_json_parts` and `gen_json_files` make further lines of what stands here: objects that are made field by field,
+//! numbers, sets and digits, and where an answer comes from.
 #![tactic(auto)]
 
 mod claims;
@@ -14,18 +14,15 @@ mod decided_logs;
 mod decisions;
 mod evidence;
 mod failures;
-mod findings;
 pub mod laws;
 mod lines;
 mod numbers;
 mod objects;
 mod origins;
-mod statuses;
-mod verdicts;
 
-pub use convictions::conviction_value;
-pub use decided_logs::decided_value;
-pub use decisions::print_decisions_json;
+pub use convictions::{conviction_value, convictions_value};
+pub use decided_logs::{decided_value, logs_value};
+pub use decisions::{all_decided_value, print_decisions_json};
 pub use evidence::{evidence_value, print_evidence_json};
 pub use failures::print_failure_json;
 pub use lines::{push_value, value_line};
@@ -34,4 +31,3 @@ pub use numbers::{
 };
 pub use objects::{JSON_VERSION, ObjectBuilder};
 pub use origins::{Origin, TOOL_VERSION, finish_from};
-pub use verdicts::{judgement_value, print_verdict_json};

@@ -1,4 +1,3 @@
 pub mod PlainCampaigns
-pub mod PlainEntries
-pub mod PlainShown
+pub mod PlainSeveral
 pub mod ShownLines

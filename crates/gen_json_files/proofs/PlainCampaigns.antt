@@ -13,7 +13,7 @@ use Rattle.gen_json_files.specs.CampaignData.{across_data, across_data_of, alone
 use Rattle.gen_json.specs.OriginData.{Origin}
 use Rattle.gen_json.proofs.Plain.{items_plain, items_shallow}
 use Rattle.gen_json.proofs.PlainOrigins.{asked_plain, asked_shallow, input_plain, input_shallow}
-use Rattle.gen_json.proofs.PlainVerdicts.{judgement_plain, judgement_shallow}
+use Rattle.gen_json_parts.proofs.PlainVerdicts.{judgement_plain, judgement_shallow}
 
 across_claim_plain : (bundles : List Bundle) (g : ℕ) (c : Claim) → has_float (across_data_of bundles g c) ≡ false
 across_claim_plain bundles g (TwoTexts x y) = refl

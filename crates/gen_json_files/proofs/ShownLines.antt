@@ -38,17 +38,18 @@ use Rattle.gen_campaign.specs.declared.campaign_fault.CampaignFault.{CampaignFau
 use Rattle.gen_json.specs.EvidenceData.{evidence_data}
 use Rattle.gen_json.specs.Line.{json_line}
 use Rattle.gen_json.proofs.PlainEvidence.{evidence_plain}
-use Rattle.gen_json_files.specs.BundleData.{bundle_lines, end_data, end_line, exhibit_lines, faulty_data, place_data, run_lines, walk_data, walk_line}
+use Rattle.gen_json_parts.specs.BundleData.{bundle_lines, end_data, end_line, exhibit_lines, faulty_data, place_data, run_lines, walk_data, walk_line}
 use Rattle.gen_json_files.specs.CampaignLines.{alone_lines, campaign_data, several_lines}
-use Rattle.gen_json_files.specs.EntryData.{entry_data, entry_lines}
-use Rattle.gen_json_files.specs.EvidenceLines.{claim_lines, evidence_line, evidence_lines}
-use Rattle.gen_json_files.specs.FaultData.{fault_data, fault_line}
-use Rattle.gen_json_files.specs.HeaderData.{equal_roots_data, equal_roots_line, header_data, header_lines}
+use Rattle.gen_json_parts.specs.EntryData.{entry_data, entry_lines}
+use Rattle.gen_json_parts.specs.EvidenceLines.{claim_lines, evidence_line, evidence_lines}
+use Rattle.gen_json_parts.specs.FaultData.{fault_data, fault_line}
+use Rattle.gen_json_parts.specs.HeaderData.{equal_roots_data, equal_roots_line, header_data, header_lines}
 use Rattle.gen_json.specs.LineLists.{AreLines}
-use Rattle.gen_json_files.specs.LogData.{head_data, log_data, log_lines, reading_lines, unreadable_data}
+use Rattle.gen_json_parts.specs.LogData.{head_data, log_data, log_lines, reading_lines, unreadable_data}
 use Rattle.gen_json_files.specs.ShowingLines.{IsEvidenceText, ShownAreLines, campaign_reading_lines, faulty_lines, front_lines, header_ending, header_reading_lines}
-use Rattle.gen_json_files.proofs.PlainShown.{campaign_plain, end_plain, equal_roots_plain, fault_plain, faulty_plain, head_plain, header_plain, log_plain, place_plain, unreadable_plain, walk_plain}
-use Rattle.gen_json_files.proofs.PlainEntries.{entry_plain}
+use Rattle.gen_json_files.proofs.PlainSeveral.{campaign_plain}
+use Rattle.gen_json_parts.proofs.PlainShown.{end_plain, equal_roots_plain, fault_plain, faulty_plain, head_plain, header_plain, log_plain, place_plain, unreadable_plain, walk_plain}
+use Rattle.gen_json_parts.proofs.PlainEntries.{entry_plain}
 
 abbrev IsPlain : Data → Type 0
 IsPlain d = has_float d ≡ false

@@ -11,7 +11,7 @@ use Rattle.gen_campaign.specs.CampaignVerdictText.{place_of}
 use Rattle.gen_json.specs.ConvictionData.{conviction_data}
 use Rattle.gen_json.specs.JsonData.{whole, list_of, fields, json_version, members}
 use Rattle.gen_json.specs.OriginData.{Origin, with_origin}
-use Rattle.gen_json.specs.VerdictData.{judgement_data}
+use Rattle.gen_json_parts.specs.VerdictData.{judgement_data}
 
 -- the judgement on a bundle, with where the answer comes from, if that is told
 abbrev pub run_data : Option Origin → Bundle → Judgement → Data

@@ -6,7 +6,7 @@ use Rattle.gen_campaign.specs.Campaign.{CampaignBundle}
 use Rattle.gen_campaign.specs.CampaignParts.{campaign_front_length}
 use Rattle.gen_json.specs.JsonData.{fields, json_version, whole}
 use Rattle.gen_json.specs.Line.{json_line}
-use Rattle.gen_json_files.specs.BundleData.{bundle_lines, end_data, run_lines}
+use Rattle.gen_json_parts.specs.BundleData.{bundle_lines, end_data, run_lines}
 
 -- several runs: the version of their format, and their number
 unfoldable pub campaign_data : ℕ → Data

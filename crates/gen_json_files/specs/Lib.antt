@@ -1,9 +1,3 @@
-pub mod BundleData
 pub mod CampaignData
 pub mod CampaignLines
-pub mod EntryData
-pub mod EvidenceLines
-pub mod FaultData
-pub mod HeaderData
-pub mod LogData
 pub mod ShowingLines

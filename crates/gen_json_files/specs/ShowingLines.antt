@@ -23,11 +23,11 @@ use Rattle.gen_file.specs.Kinds.{Holds}
 use Rattle.gen_file.specs.Parts.{front_end}
 use Rattle.serde_json.specs.Data.{Data}
 use Rattle.gen_json.specs.LineLists.{AreLines}
-use Rattle.gen_json_files.specs.BundleData.{end_line}
+use Rattle.gen_json_parts.specs.BundleData.{end_line}
 use Rattle.gen_json_files.specs.CampaignLines.{campaign_lines}
-use Rattle.gen_json_files.specs.EvidenceLines.{evidence_lines}
-use Rattle.gen_json_files.specs.FaultData.{fault_line}
-use Rattle.gen_json_files.specs.HeaderData.{header_lines}
+use Rattle.gen_json_parts.specs.EvidenceLines.{evidence_lines}
+use Rattle.gen_json_parts.specs.FaultData.{fault_line}
+use Rattle.gen_json_parts.specs.HeaderData.{header_lines}
 
 -- the line of the header with which a file begins, behind a mark; none where no header stands there
 abbrev pub front_lines : List ℕ → Result (RunHeader × List ℕ) FrontFault → List ℕ

@@ -4,9 +4,9 @@ ghost use Rattle.serde_json.specs.View.{view};
 ghost use Rattle.gen_campaign.specs.CampaignParts.{HaveRoom};
 ghost use Rattle.gen_json_files.specs.CampaignLines.{campaign_data, campaign_lines};
 
-use crate::bundles::{push_bundle, push_end, push_runs};
 use gen_campaign::{CAMPAIGN_FRONT, CampaignBundle};
 use gen_json::{JSON_VERSION, ObjectBuilder, push_value};
+use gen_json_parts::{push_bundle, push_end, push_runs};
 use serde_json::Value;
 use std::alloc::{AllocError, Global};
 
@@ -24,7 +24,7 @@ fn campaign_value(alloc: Global, count: usize) -> Result<Value, AllocError>
 }
 
 /// Appends the lines of what is shown of a campaign: of a bundle that stands alone, or of several runs.
-#[tactic(auto, using(crate::proofs::PlainShown::campaign_plain), unfolding(crate::specs::CampaignLines::several_lines))]
+#[tactic(auto, using(crate::proofs::PlainSeveral::campaign_plain), unfolding(crate::specs::CampaignLines::several_lines))]
 pub fn push_campaign(
     alloc: Global,
     out: &mut Vec<u8>,

@@ -11,14 +11,8 @@
 //! JSON finds this value in it.
 #![tactic(auto)]
 
-mod bundles;
 mod campaigns;
-mod entries;
-mod evidence;
-mod faults;
-mod headers;
 pub mod laws;
-mod logs;
 mod showing;
 mod verdicts;
 

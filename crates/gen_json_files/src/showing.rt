@@ -7,17 +7,14 @@ ghost use Rattle.gen_file.specs.declared.kinds.FileKind.TheVariants as kinds;
 ghost use Rattle.gen_campaign.specs.WholeFile.{is_whole_as};
 ghost use Rattle.gen_json_files.specs.ShowingLines.{IsJsonAs, faulty_lines, front_lines};
 
-use crate::bundles::push_end;
 use crate::campaigns::push_campaign;
-use crate::evidence::push_evidence;
-use crate::faults::push_fault;
-use crate::headers::push_header;
 use gen_campaign::{push_campaign_fault, read_campaign};
 use gen_convict::{check_evidence, read_evidence};
 use gen_file::{
     BUNDLE_MARKS, EVIDENCE_MARKS, FileKind, Shown, file_kind, front_length, push_evidence_fault,
     push_header_fault,
 };
+use gen_json_parts::{push_end, push_evidence, push_fault, push_header};
 use gen_net::{Marks, read_front, read_header};
 use gen_types::ReadError;
 use std::alloc::{AllocError, Global};

@@ -10,9 +10,8 @@ ghost use Rattle.gen_json.specs.Line.{ReadsAs, json_line};
 use gen_audit::{Bundle, Judgement};
 use gen_campaign::{CampaignBundle, CampaignVerdict, place_of};
 use gen_convict::{Claim, Evidence};
-use gen_json::{
-    JSON_VERSION, ObjectBuilder, Origin, conviction_value, finish_from, judgement_value, value_line,
-};
+use gen_json::{JSON_VERSION, ObjectBuilder, Origin, conviction_value, finish_from, value_line};
+use gen_json_parts::judgement_value;
 use serde_json::Value;
 use std::alloc::{AllocError, Global};
 

@@ -18,7 +18,7 @@ use Rattle.gen_campaign.specs.CampaignVerdictText.{campaign_text, several_text}
 use Rattle.gen_json_files.specs.CampaignData.{campaign_data, several_data}
 use Rattle.gen_json.specs.Line.{json_line}
 use Rattle.gen_json.specs.OriginData.{Origin}
-use Rattle.gen_json.specs.VerdictData.{judgement_data}
+use Rattle.gen_json_parts.specs.VerdictData.{judgement_data}
 use Rattle.gen_ends.specs.declared.ends.JobFault.{JobFault}
 use Rattle.gen_ends.specs.declared.ends.JobFault.TheVariants as faults
 

@@ -18,8 +18,9 @@ use gen_campaign::{
     CampaignBundle, CampaignVerdict, audit_campaign, print_campaign, read_taken_campaign,
 };
 use gen_ends::{JobEnd, JobFault, Open, Output, deliver, read_all};
-use gen_json::{Origin, print_verdict_json};
+use gen_json::Origin;
 use gen_json_files::print_campaign_json;
+use gen_json_parts::print_verdict_json;
 use gen_report::print_verdict;
 use std::alloc::{AllocError, Global};
 use std::io::{Read, Write};

@@ -5,12 +5,12 @@ use Rattle.gen_scenario.specs.Scenario.{Plain, Scenario}
 use Rattle.gen_audit.specs.BundleSpelling.{bundle_spelling}
 use Rattle.gen_audit.specs.WorldBundle.{HasWalks, bundle_of}
 use Rattle.gen_audit.specs.Bundle.{Bundle}
-use Rattle.gen_report.specs.declared.fault.LineFault.TheVariants.{BadSeed}
-use Rattle.gen_report.specs.declared.fault.ScenarioFault.{ScenarioFault}
-use Rattle.gen_report.specs.declared.scenario_text.ScenarioText.TheVariants as texts
-use Rattle.gen_report.specs.LineReading.{fault_at}
-use Rattle.gen_report.specs.Scenario.{SpellsScenario}
-use Rattle.gen_report.specs.ScenarioReading.{scenario_of}
+use Rattle.gen_text.specs.declared.fault.LineFault.TheVariants.{BadSeed}
+use Rattle.gen_text.specs.declared.fault.ScenarioFault.{ScenarioFault}
+use Rattle.gen_text.specs.declared.scenario_text.ScenarioText.TheVariants as texts
+use Rattle.gen_text.specs.LineReading.{fault_at}
+use Rattle.gen_text.specs.Scenario.{SpellsScenario}
+use Rattle.gen_text.specs.ScenarioReading.{scenario_of}
 use Rattle.gen_ends.specs.declared.ends.JobFault.{JobFault}
 use Rattle.gen_ends.specs.declared.ends.JobFault.TheVariants as faults
 

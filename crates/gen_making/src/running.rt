@@ -1,8 +1,8 @@
 //! The job `run`: runs a scenario, and writes the bundle of the run.
 ghost use Rattle.std.specs.Prelude.{◌≡◌, ◌<◌, false, IfErr, IfOk, IfSome};
 ghost use Rattle.gen_audit.specs.BundleSpelling.{bundle_spelling};
-ghost use Rattle.gen_report.specs.Scenario.{SpellsScenario};
-ghost use Rattle.gen_report.specs.declared.scenario_text.ScenarioText.TheVariants as texts;
+ghost use Rattle.gen_text.specs.Scenario.{SpellsScenario};
+ghost use Rattle.gen_text.specs.declared.scenario_text.ScenarioText.TheVariants as texts;
 ghost use Rattle.gen_ends.specs.Answering.{Answers};
 ghost use Rattle.gen_ends.specs.Ends.{IsTaken, KeepsUntilWhole};
 ghost use Rattle.gen_making.specs.Run.{IsOfRun, IsRunAnswer, IsRunFault};
@@ -14,8 +14,8 @@ use gen_ends::{JobEnd, JobFault, Open, Output, read_all};
 use gen_local::exhibits_of_logs;
 use gen_log::SealedLog;
 use gen_prepare::walks_between;
-use gen_report::{LineFault, ScenarioFault, ScenarioText, read_scenario};
 use gen_scenario::Scenario;
+use gen_text::{LineFault, ScenarioFault, ScenarioText, read_scenario};
 use gen_threads::{make_trees, run_threads};
 use std::alloc::{AllocError, Global};
 use std::io::{Read, Write};

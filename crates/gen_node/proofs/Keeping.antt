@@ -2,7 +2,7 @@
 use Rattle.std.proofs.Common.{◌≡◌, ◌<◌, ◌+◌, ℕ, true, false, List, [], ◌∷◌, ◌++◌, refl, sym, ap, subst, ◌∙◌, arith, Option, Some, None, inl, inr}
 use Rattle.std.specs.Prelude.{IsSome}
 use Rattle.std.proofs.lemmas.Bool.{ltb-true}
-use Rattle.gen_tree.specs.Rings.{Ring}
+use Rattle.gen_tree.specs.Rings.{Ring, ring_root}
 use Rattle.gen_net.specs.Header.{RunHeader}
 use Rattle.gen_log.specs.declared.entries.Entry.{Entry}
 use Rattle.gen_net.specs.Network.{rounds}
@@ -13,7 +13,7 @@ use Rattle.gen_scenario.specs.Counted.{counted_of}
 use Rattle.gen_general.specs.Participant.{Participant, RingAfter, sender_at}
 use Rattle.gen_general.specs.Loops.Journals.{IsRecord}
 use Rattle.gen_general.proofs.JournalRecords.{heard_record, round_record}
-use Rattle.gen_general.specs.Recording.{Recorder, RecordsRound, StandBefore, with_recvs, with_sends}
+use Rattle.gen_general.specs.Recording.{HasOwnRoot, Recorder, RecordsRound, StandBefore, with_recvs, with_sends}
 use Rattle.gen_node.specs.declared.stages.Stage.{Stage}
 use Rattle.gen_node.specs.declared.stages.Stage.TheVariants.{Between, Sending, Open, Hearing}
 use Rattle.gen_node.specs.Held.{Held}
@@ -27,6 +27,12 @@ ring_stays p (Some old) (Some new) after some = refl
 ring_stays p (Some old) None after some = absurd after
 ring_stays p None (Some new) after some = absurd after
 ring_stays p None None after some = some
+
+root_stays : (p : Participant) (old new : Option Ring) → RingAfter p old new → HasOwnRoot p.known old → HasOwnRoot p.known new
+root_stays p (Some old) (Some new) after root = root ∙ (λ j. ring_root (sym after.seed j) (sym after.height j))
+root_stays p (Some old) None after root = absurd after
+root_stays p None (Some new) after root = absurd after
+root_stays p None None after root = root
 
 -- ---- a round begins
 
@@ -46,6 +52,7 @@ kept_signed h r q out more is begun = record {
   header = ap (λ (k : Part). k.header) begun.standing.known ∙ is.header;
   unscripted = ap (λ (k : Part). k.script) begun.standing.known ∙ is.unscripted;
   ring = ring_stays r.standing r.standing.ring q.standing.ring begun.standing.ring is.ring;
+  root = subst (λ (k : Part). HasOwnRoot k q.standing.ring) (sym begun.standing.known) (root_stays r.standing r.standing.ring q.standing.ring begun.standing.ring is.root);
   acts = subst (λ (k : Part). IsRecord q.standing (log_begun k)) (sym begun.standing.known) (round_record r.standing q.standing (log_begun r.standing.known) more begun.standing is.acts);
   place = signs_stand h r q out is begun;
   holds = (omega arith, refl);
@@ -62,6 +69,7 @@ kept_sent h r next out low near is =
       header = is.header;
       unscripted = is.unscripted;
       ring = is.ring;
+      root = is.root;
       acts = is.acts;
       place = stand_both h.network r.written es at old new;
       holds = (omega (arith, low), held_near r (header_at r).network r.standing.known.me next out near is.holds.1);
@@ -74,6 +82,7 @@ kept_unsent h r next out low far is =
       header = is.header;
       unscripted = is.unscripted;
       ring = is.ring;
+      root = is.root;
       acts = is.acts;
       place = stand_later h.network r.written (round ∷ 1 ∷ next ∷ []) (round ∷ 1 ∷ (next + 1) ∷ []) is.place (inr (refl, inr (refl, inl (omega arith))));
       holds = (omega (arith, low), held_far r (header_at r).network r.standing.known.me next out far is.holds.1);
@@ -93,6 +102,7 @@ kept_heard h r next frame out is =
       header = is.header;
       unscripted = is.unscripted;
       ring = is.ring;
+      root = is.root;
       acts = heard_record r.standing (log_begun r.standing.known) next frame is.acts;
       place = stand_both h.network r.written es at old new;
       holds = tt;
@@ -105,6 +115,7 @@ kept_unheard h r next out is =
       header = is.header;
       unscripted = is.unscripted;
       ring = is.ring;
+      root = is.root;
       acts = is.acts;
       place = stand_later h.network r.written (round ∷ 2 ∷ next ∷ []) (round ∷ 2 ∷ (next + 1) ∷ []) is.place (inr (refl, inr (refl, inl (omega arith))));
       holds = tt;

@@ -6,7 +6,7 @@ ghost use Rattle.gen_types.specs.Reading.{Gives};
 ghost use Rattle.gen_types.specs.Spelled.{Spells};
 ghost use Rattle.gen_net.specs.Header.{height_of};
 ghost use Rattle.gen_general.specs.Participant.{IsUnused};
-ghost use Rattle.gen_general.specs.Recording.{RingSealed, log_written};
+ghost use Rattle.gen_general.specs.Recording.{HasOwnRoot, IsSealed, RingSealed, log_kept, log_written};
 ghost use Rattle.gen_node.specs.declared.node_fault.NodeFault.TheVariants.{Memory};
 ghost use Rattle.gen_node.specs.declared.stages.Stage.TheVariants.{Hearing, Sending};
 ghost use Rattle.gen_node.specs.Frame.{IsFrame, frame_spelling};
@@ -141,6 +141,7 @@ impl Node {
         requires header { part.header ≡ header }
         requires script { part.script ≡ None }
         requires ring { IsUnused header ring }
+        requires root { HasOwnRoot part (Some ring) }
         ensures ok { IfOk result (λ node. node ≡ of_part part ring) }
         ensures ring { IfErr result (λ e. e.1 ≡ ring) }
         ensures fault { IfErr result (λ e. e.0 ≡ Memory) }
@@ -434,15 +435,19 @@ impl Node {
         Ok(())
     }
 
-    /// Ends the node after the last round, and seals its log. The node's ring comes back, with the log and the
-    /// decision.
+    /// Ends the node after the last round, and seals its log. The node's ring comes back, with the header, the log and
+    /// the decision.
     ///
     /// # Errors
     ///
     /// The node itself, unchanged, if memory is refused: the call may be tried again.
     pub fn finish(self, alloc: Global) -> Result<NodeEnd, Node>
         requires { nodes.is_over self ≡ true }
+        ensures header { IfOk result (λ end. end.header ≡ header_at self.recorder) }
         ensures log { IfOk result (λ end. end.log ≡ log_written self.recorder) }
+        // The log that these bytes are is lawful, and its head verifies.
+        ensures sealed { IfOk result (λ _. IsSealed (header_at self.recorder)
+            self.recorder.standing.known.me (log_kept self.recorder)) }
         ensures decision { IfOk result (λ end. end.decision ≡ decision_of_node self.recorder) }
         ensures ring { IfOk result (λ end.
             RingSealed (header_at self.recorder) self.recorder.standing.ring (Some end.ring)) }
@@ -458,6 +463,7 @@ impl Node {
         let decision = recorder.decide();
         match recorder.finish_follower(alloc) {
             Ok((log, ring)) => Ok(NodeEnd {
+                header,
                 log,
                 decision,
                 ring,

@@ -6,11 +6,11 @@ use Rattle.hex.proofs.HexLemmas.{decode_sized-twice}
 use Rattle.gen_net.specs.declared.version.Version.{Version}
 use Rattle.gen_net.specs.Header.{RunHeader}
 use Rattle.gen_script.proofs.Hexes.{decoded_again}
-use Rattle.gen_report.specs.Text.{parts}
-use Rattle.gen_report.specs.Fields.{line_of}
-use Rattle.gen_report.proofs.AgainBlocks.{end_fields}
-use Rattle.gen_report.proofs.AgainLines.{word, digits_plain, IsLine, AreFields, fields_line, IsGoing, going_behind, fields_again, parts_again}
-use Rattle.gen_report.proofs.AgainScenario.{append_lines}
+use Rattle.gen_text.specs.Text.{parts}
+use Rattle.gen_text.specs.Fields.{line_of}
+use Rattle.gen_text.proofs.AgainBlocks.{end_fields}
+use Rattle.gen_text.proofs.AgainLines.{word, digits_plain, IsLine, AreFields, fields_line, IsGoing, going_behind, fields_again, parts_again}
+use Rattle.gen_text.proofs.AgainScenario.{append_lines}
 use Rattle.gen_prepare.specs.NetText.{net_lines}
 use Rattle.gen_prepare.proofs.NetAgain.{net_again, net_are_lines}
 use Rattle.gen_prepare.specs.HeaderText.{SpellsRoot, SpellRoots, SpellsHeader}

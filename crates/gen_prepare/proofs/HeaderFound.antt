@@ -12,18 +12,18 @@ use Rattle.gen_net.specs.declared.version.Version.{Version}
 use Rattle.gen_net.specs.Header.{RunHeader}
 use Rattle.gen_net.specs.Network.{Network}
 use Rattle.gen_script.proofs.Hexes.{decoded_found}
-use Rattle.gen_report.specs.declared.fault.LineFault.TheVariants.{Shape, Extra}
-use Rattle.gen_report.specs.declared.fault.ScenarioFault.{ScenarioFault}
-use Rattle.gen_report.specs.Text.{parts}
-use Rattle.gen_report.specs.Fields.{line_of}
-use Rattle.gen_report.specs.Cursor.{Cursor, start_of}
-use Rattle.gen_report.specs.CursorReading.{next_line, is_over}
-use Rattle.gen_report.specs.KeysReading.{known_seed}
-use Rattle.gen_report.specs.LineReading.{fault_at}
-use Rattle.gen_report.proofs.Cuts.{joined}
-use Rattle.gen_report.proofs.Stepping.{done}
-use Rattle.gen_report.proofs.FoundLines.{passed, line_found, first_is}
-use Rattle.gen_report.proofs.FoundScenario.{nothing_left, joined_lines}
+use Rattle.gen_text.specs.declared.fault.LineFault.TheVariants.{Shape, Extra}
+use Rattle.gen_text.specs.declared.fault.ScenarioFault.{ScenarioFault}
+use Rattle.gen_text.specs.Text.{parts}
+use Rattle.gen_text.specs.Fields.{line_of}
+use Rattle.gen_text.specs.Cursor.{Cursor, start_of}
+use Rattle.gen_text.specs.CursorReading.{next_line, is_over}
+use Rattle.gen_text.specs.KeysReading.{known_seed}
+use Rattle.gen_text.specs.LineReading.{fault_at}
+use Rattle.gen_text.proofs.Cuts.{joined}
+use Rattle.gen_text.proofs.Stepping.{done}
+use Rattle.gen_text.proofs.FoundLines.{passed, line_found, first_is}
+use Rattle.gen_text.proofs.FoundScenario.{nothing_left, joined_lines}
 use Rattle.gen_prepare.specs.HeaderText.{SpellsRoot, SpellRoots, SpellsHeader}
 use Rattle.gen_prepare.specs.HeaderTextReading.{root_in, root_at, roots_at, last_in, last_at, header_of_text}
 use Rattle.gen_prepare.specs.NetText.{net_at, net_lines}

@@ -6,7 +6,7 @@ use Rattle.gen_net.specs.Header.{RunHeader}
 use Rattle.gen_plan.specs.EqualRoots.{HasOwnRoots, equal_roots, first_pair}
 use Rattle.gen_plan.proofs.Pairs.{none_first}
 use Rattle.gen_plan.proofs.Sharing.{no_pairs}
-use Rattle.gen_report.specs.declared.fault.ScenarioFault.{ScenarioFault}
+use Rattle.gen_text.specs.declared.fault.ScenarioFault.{ScenarioFault}
 use Rattle.gen_prepare.specs.declared.header_fault.HeaderTextFault.{HeaderTextFault}
 use Rattle.gen_prepare.specs.declared.header_fault.HeaderTextFault.TheVariants.{Text}
 use Rattle.gen_prepare.specs.HeaderTextReading.{header_of_text, header_given, unless_shared}

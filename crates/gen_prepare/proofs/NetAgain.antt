@@ -6,9 +6,9 @@ use Rattle.std.proofs.lemmas.Simd.{map-map}
 use Rattle.gen_net.specs.declared.numbers.NetNumbers.{NetNumbers}
 use Rattle.gen_net.specs.Network.{Network}
 use Rattle.gen_net.specs.NetworkOf.{network_of}
-use Rattle.gen_report.specs.Fields.{line_of, said, edge_line}
-use Rattle.gen_report.proofs.AgainLines.{word, IsLine, IsGoing, going_behind}
-use Rattle.gen_report.proofs.AgainNumbers.{edges_of, traitors_line, opening_again, settings_again, lines_behind, a_line}
+use Rattle.gen_text.specs.Fields.{line_of, said, edge_line}
+use Rattle.gen_text.proofs.AgainLines.{word, IsLine, IsGoing, going_behind}
+use Rattle.gen_text.proofs.AgainNumbers.{edges_of, traitors_line, opening_again, settings_again, lines_behind, a_line}
 use Rattle.gen_prepare.specs.NetText.{FitBytes, net_at, net_lines}
 
 closing_of : NetNumbers → List (List (List ℕ))

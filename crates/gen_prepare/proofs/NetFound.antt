@@ -7,15 +7,15 @@ use Rattle.gen_types.proofs.Steps.{after, at_end, mapped_ok}
 use Rattle.gen_net.specs.declared.numbers.NetNumbers.{NetNumbers}
 use Rattle.gen_net.specs.Network.{Network}
 use Rattle.gen_net.specs.NetworkOf.{network_of}
-use Rattle.gen_report.specs.declared.fault.LineFault.TheVariants as faults
-use Rattle.gen_report.specs.declared.fault.ScenarioFault.{ScenarioFault}
-use Rattle.gen_report.specs.Fields.{line_of, said, edge_line}
-use Rattle.gen_report.specs.Cursor.{Cursor}
-use Rattle.gen_report.specs.LineReading.{fault_at}
-use Rattle.gen_report.specs.NumbersReading.{Opening, Settings, opening_at, settings_at, numbers_said, network_at}
+use Rattle.gen_text.specs.declared.fault.LineFault.TheVariants as faults
+use Rattle.gen_text.specs.declared.fault.ScenarioFault.{ScenarioFault}
+use Rattle.gen_text.specs.Fields.{line_of, said, edge_line}
+use Rattle.gen_text.specs.Cursor.{Cursor}
+use Rattle.gen_text.specs.LineReading.{fault_at}
+use Rattle.gen_text.specs.NumbersReading.{Opening, Settings, opening_at, settings_at, numbers_said, network_at}
 use Rattle.gen_prepare.specs.NetText.{FitBytes, net_at, net_lines}
-use Rattle.gen_report.proofs.Stepping.{done}
-use Rattle.gen_report.proofs.FoundNumbers.{OpeningOf, SettingsOf, opening_found, settings_found}
+use Rattle.gen_text.proofs.Stepping.{done}
+use Rattle.gen_text.proofs.FoundNumbers.{OpeningOf, SettingsOf, opening_found, settings_found}
 
 -- the network of the first lines, and the lines after them
 pub record NetOf (c : Cursor) (x : Network × Cursor) : Type 0 where

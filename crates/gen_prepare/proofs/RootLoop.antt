@@ -12,9 +12,9 @@ use Rattle.gen_net.specs.declared.version.Version.{Version}
 use Rattle.gen_net.specs.Header.{RunHeader, header_with}
 use Rattle.gen_net.specs.Network.{Network}
 use Rattle.gen_net.specs.Version.{greatest_slot, slot_in}
-use Rattle.gen_report.specs.declared.fault.ScenarioFault.{ScenarioFault}
-use Rattle.gen_report.specs.Cursor.{Cursor}
-use Rattle.gen_report.proofs.Stepping.{done}
+use Rattle.gen_text.specs.declared.fault.ScenarioFault.{ScenarioFault}
+use Rattle.gen_text.specs.Cursor.{Cursor}
+use Rattle.gen_text.proofs.Stepping.{done}
 use Rattle.gen_prepare.specs.HeaderTextReading.{root_at, roots_at}
 
 -- what was read before, and what is still read

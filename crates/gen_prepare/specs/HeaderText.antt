@@ -5,7 +5,7 @@ use Rattle.gen_net.specs.declared.version.Version.{Version}
 use Rattle.gen_net.specs.Header.{RunHeader}
 use Rattle.gen_net.specs.NetworkOf.{network_of}
 use Rattle.gen_script.specs.Digits.{SpellsBytes}
-use Rattle.gen_report.specs.Fields.{line_of, text_of}
+use Rattle.gen_text.specs.Fields.{line_of, text_of}
 use Rattle.gen_prepare.specs.NetText.{FitBytes, net_lines}
 
 -- The line spells the root in 64 hexadecimal digits behind a word.

@@ -6,12 +6,12 @@ use Rattle.hex.specs.Hex.{decode_sized}
 use Rattle.gen_types.specs.Reading.{◌>>=◌, check, map_fault}
 use Rattle.gen_net.specs.declared.version.Version.{Version}
 use Rattle.gen_net.specs.Header.{RunHeader}
-use Rattle.gen_report.specs.declared.fault.LineFault.TheVariants.{Shape, Extra}
-use Rattle.gen_report.specs.declared.fault.ScenarioFault.{ScenarioFault}
-use Rattle.gen_report.specs.Cursor.{Cursor, start_of}
-use Rattle.gen_report.specs.CursorReading.{next_line, is_over}
-use Rattle.gen_report.specs.KeysReading.{known_seed}
-use Rattle.gen_report.specs.LineReading.{fault_at}
+use Rattle.gen_text.specs.declared.fault.LineFault.TheVariants.{Shape, Extra}
+use Rattle.gen_text.specs.declared.fault.ScenarioFault.{ScenarioFault}
+use Rattle.gen_text.specs.Cursor.{Cursor, start_of}
+use Rattle.gen_text.specs.CursorReading.{next_line, is_over}
+use Rattle.gen_text.specs.KeysReading.{known_seed}
+use Rattle.gen_text.specs.LineReading.{fault_at}
 use Rattle.gen_plan.specs.EqualRoots.{equal_roots, first_pair}
 use Rattle.gen_prepare.specs.declared.header_fault.HeaderTextFault.{HeaderTextFault}
 use Rattle.gen_prepare.specs.declared.header_fault.HeaderTextFault.TheVariants.{Text, EqualRoots}

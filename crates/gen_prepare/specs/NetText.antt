@@ -4,10 +4,10 @@ use Rattle.std.specs.List.{AllByRecursion}
 use Rattle.gen_types.specs.Reading.{◌>>=◌}
 use Rattle.gen_net.specs.declared.numbers.NetNumbers.{NetNumbers}
 use Rattle.gen_net.specs.Network.{Network}
-use Rattle.gen_report.specs.declared.fault.ScenarioFault.{ScenarioFault}
-use Rattle.gen_report.specs.Cursor.{Cursor}
-use Rattle.gen_report.specs.Fields.{edge_line, said}
-use Rattle.gen_report.specs.NumbersReading.{net_behind, opening_at}
+use Rattle.gen_text.specs.declared.fault.ScenarioFault.{ScenarioFault}
+use Rattle.gen_text.specs.Cursor.{Cursor}
+use Rattle.gen_text.specs.Fields.{edge_line, said}
+use Rattle.gen_text.specs.NumbersReading.{net_behind, opening_at}
 
 -- the network whose lines begin at a cursor, and the cursor after the line of its choice
 unfoldable pub net_at : Cursor → Result (Network × Cursor) ScenarioFault

@@ -1,5 +1,5 @@
 //! Why a text gives no header.
-use gen_report::ScenarioFault;
+use gen_text::ScenarioFault;
 use gen_types::GeneralNo;
 use thiserror::Error;
 

@@ -11,7 +11,7 @@ ghost use Rattle.gen_plan.specs.EqualRoots.{HasOwnRoots, equal_roots, first_pair
 use crate::header_fault::HeaderTextFault;
 use gen_net::{Header, HeaderFault, Net, Version};
 use gen_plan::first_equal_roots;
-use gen_report::{Cursor, LineFault, ScenarioFault, first_opening, net_behind};
+use gen_text::{Cursor, LineFault, ScenarioFault, first_opening, net_behind};
 use gen_types::ReadError;
 use hex::FromHex;
 use std::alloc::Global;

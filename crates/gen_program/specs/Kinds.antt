@@ -32,6 +32,16 @@ abbrev pub is_evidence : InputKind → Bool
 is_evidence kinds.Evidence = true
 is_evidence _ = false
 
+-- whether a kind is receipts
+abbrev pub are_receipts : InputKind → Bool
+are_receipts kinds.Receipts = true
+are_receipts _ = false
+
+-- whether a kind is a bundle
+abbrev pub is_bundle : InputKind → Bool
+is_bundle kinds.Bundle = true
+is_bundle _ = false
+
 -- whether a kind is judged: a bundle or a campaign
 abbrev pub is_judged : InputKind → Bool
 is_judged kinds.Bundle = true
@@ -63,7 +73,10 @@ reads_kind (jobs.Campaign capacity) kind = is_campaign_text kind
 reads_kind (jobs.Audit workers asked strict form) kind = is_judged kind
 reads_kind (jobs.Draw workers asked) kind = is_judged kind
 reads_kind (jobs.Accuse general asked) kind = is_judged kind
+reads_kind (jobs.AccuseReceipts general asked) kind = are_receipts kind
 reads_kind (jobs.Evidence asked form) kind = is_evidence kind
+reads_kind (jobs.Receipt general asked) kind = is_bundle kind
+reads_kind (jobs.Receipts asked form) kind = are_receipts kind
 reads_kind (jobs.Show asked form) kind = is_shown kind
 reads_kind (jobs.Root height) kind = false
 reads_kind (jobs.Header version) kind = is_scenario kind
@@ -89,6 +102,7 @@ answers_in_json (jobs.Decide form) = is_json form
 answers_in_json (jobs.Judge capacity workers strict form) = is_json form
 answers_in_json (jobs.Audit workers asked strict form) = is_json form
 answers_in_json (jobs.Evidence asked form) = is_json form
+answers_in_json (jobs.Receipts asked form) = is_json form
 answers_in_json (jobs.Show asked form) = is_json form
 answers_in_json job = false
 

@@ -17,5 +17,7 @@ abbrev pub writes_bytes : Job → Bool
 writes_bytes (jobs.Run n) = true
 writes_bytes (jobs.Campaign n) = true
 writes_bytes (jobs.Accuse g asked) = true
+writes_bytes (jobs.AccuseReceipts g asked) = true
+writes_bytes (jobs.Receipt g asked) = true
 writes_bytes (jobs.Header version) = true
 writes_bytes job = false

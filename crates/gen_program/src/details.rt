@@ -159,6 +159,7 @@ impl Display for KindTold {
         let words = self.0.words();
         match self.0 {
             InputKind::Evidence => write!(f, "{words} does")?,
+            InputKind::Receipts => write!(f, "{words} do")?,
             _ => write!(f, "a {words} does")?,
         }
         match self.0.command() {

@@ -61,7 +61,16 @@ fn reads_kind(job: &Job, kind: InputKind) -> bool
             general: _,
             asked: _,
         } => is_judged(kind),
+        Job::AccuseReceipts {
+            general: _,
+            asked: _,
+        }
+        | Job::Receipts { asked: _, form: _ } => matches!(kind, InputKind::Receipts),
         Job::Evidence { asked: _, form: _ } => matches!(kind, InputKind::Evidence),
+        Job::Receipt {
+            general: _,
+            asked: _,
+        } => matches!(kind, InputKind::Bundle),
         Job::Show { asked: _, form: _ } => is_shown(kind),
         Job::Root { height: _ } => false,
         Job::Plan { version: _ } => is_planned(kind),
@@ -99,10 +108,9 @@ pub(crate) fn answers_in_json(job: &Job) -> bool
             strict: _,
             form,
         } => matches!(form, Form::Json),
-        Job::Evidence { asked: _, form } | Job::Show { asked: _, form } => matches!(
-            form,
-            Form::Json
-        ),
+        Job::Evidence { asked: _, form }
+        | Job::Receipts { asked: _, form }
+        | Job::Show { asked: _, form } => matches!(form, Form::Json),
         _ => false,
     }
 }

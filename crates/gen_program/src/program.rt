@@ -183,6 +183,14 @@ fn writes_bytes(job: &Job) -> bool
             general: _,
             asked: _,
         }
+        | Job::AccuseReceipts {
+            general: _,
+            asked: _,
+        }
+        | Job::Receipt {
+            general: _,
+            asked: _,
+        }
         | Job::Header { version: _ } => true,
         _ => false,
     }

@@ -1,5 +1,5 @@
 -- What receipts of more than m generals show: Theorem 4 of section 5 of the paper of 1982, for receipts.
-use Rattle.std.specs.Prelude.{ℕ, ◌≢◌, ◌<◌, ◌≤◌, ◌⊎◌, List, length, Contains, AllPairs, Some}
+use Rattle.std.specs.Prelude.{ℕ, ◌≡◌, ◌≢◌, ◌<◌, ◌≤◌, ◌⊎◌, List, length, Contains, AllPairs, Some}
 use Rattle.gen_net.specs.Header.{RunHeader, IsHeader}
 use Rattle.gen_net.specs.Network.{Network, IsLoyal}
 use Rattle.gen_walks.specs.Walks.{IsRestOf, BoundsDiameter}
@@ -11,9 +11,9 @@ use Rattle.gen_match.specs.Matching.{Logs}
 use Rattle.gen_audit.specs.Agreement.{AgreesOn}
 use Rattle.gen_audit.specs.Explained.{IsExplained}
 use Rattle.gen_receipt.specs.declared.receipts.Receipt.{Receipt}
-use Rattle.gen_receipt.specs.Receipts.{IsReceiptOf}
+use Rattle.gen_receipt.specs.Receipts.{AreReceipts, IsReceiptOf}
 use Rattle.gen_receipt.specs.Refuted.{HasDecisionOf, IsAnswerToReceipt}
-use Rattle.gen_receipt.specs.Shown.{AreReceipts, IsShown}
+use Rattle.gen_receipt.specs.Shown.{IsShown}
 
 -- the entries of the logs that the generals kept, without signatures
 abbrev pub entries_of : (ℕ → RunLog) → Logs
@@ -77,3 +77,11 @@ EnoughUnlessAnswered =
     → IsRunWithFew h.network faulty rest walks logs → RestVerifies h faulty logs
     → (receipts : List Receipt) → AreReceipts h receipts → (order : ℕ) → IsShown h receipts order
     → AgreesOn h.network faulty (entries_of logs) order ⊎ OneAnswered h faulty logs receipts
+
+-- receipts show at most one order, or a receipt of the rest is answered
+abbrev pub OneOrderUnlessAnswered : Type 0
+OneOrderUnlessAnswered =
+    (h : RunHeader) (faulty rest : List ℕ) (walks : List (List ℕ)) (logs : ℕ → RunLog) → IsHeader h
+    → IsRunWithFew h.network faulty rest walks logs → RestVerifies h faulty logs
+    → (receipts : List Receipt) → AreReceipts h receipts → (v w : ℕ) → IsShown h receipts v
+    → IsShown h receipts w → (v ≡ w) ⊎ OneAnswered h faulty logs receipts

@@ -1,5 +1,5 @@
 -- Receipts: the end of a log, which shows the decision of the general that keeps it.
-use Rattle.std.specs.Prelude.{ℕ, ◌≡◌, ◌<◌, ◌^◌, List, [], ◌∷◌, ◌++◌, length, Ok}
+use Rattle.std.specs.Prelude.{ℕ, ◌≡◌, ◌<◌, ◌^◌, List, [], ◌∷◌, ◌++◌, length, Contains, Ok}
 use Rattle.sha2.specs.Sha256.{sha256}
 use Rattle.gen_tree.specs.Signatures.{Verifies}
 use Rattle.gen_net.specs.Header.{RunHeader, height_of, root_of}
@@ -50,6 +50,10 @@ pub record IsReceipt (h : RunHeader) (r : Receipt) : Type 0 where
   pub link : length r.link ≡ 32
   pub decide : IsEntryOf h (decide_in r)
   pub signature : IsSignature h r.signature
+
+-- each of the receipts can be one of the run
+abbrev pub AreReceipts : RunHeader → List Receipt → Type 0
+AreReceipts h receipts = (r : Receipt) → Contains receipts r → IsReceipt h r
 
 -- The receipt is the one that the log gives as this general's. The log ends with the DECIDE of the receipt,
 -- the link is that over the entries before it, and the signature is that of the head.

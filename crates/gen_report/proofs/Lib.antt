@@ -1,16 +1,1 @@
-pub mod AgainBlocks
-pub mod AgainKeys
-pub mod AgainLines
-pub mod AgainNumbers
-pub mod AgainScenario
-pub mod BlockLoop
-pub mod Cuts
-pub mod EdgeLoop
-pub mod FoundBlocks
-pub mod FoundKeys
-pub mod FoundLines
-pub mod FoundNumbers
-pub mod FoundScenario
 pub mod Headed
-pub mod Stepping
-pub mod Traitors

@@ -1,17 +1,3 @@
-pub mod BlocksReading
-pub mod Cursor
-pub mod CursorReading
 pub mod Decisions
-pub mod EdgeReading
-pub mod Fields
 pub mod Findings
-pub mod ItemReading
-pub mod KeysReading
-pub mod LineReading
-pub mod NumbersReading
-pub mod Scenario
-pub mod ScenarioReading
-pub mod Scripts
-pub mod Text
-pub mod Told
 pub mod VerdictText

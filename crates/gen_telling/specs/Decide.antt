@@ -4,10 +4,10 @@ use Rattle.serde_json.specs.Data.{Data}
 use Rattle.gen_net.specs.Header.{run_id_of}
 use Rattle.gen_scenario.specs.Scenario.{Scenario, header_of, scripted}
 use Rattle.gen_scenario.specs.Deciding.{decisions_of, with_keys}
-use Rattle.gen_report.specs.declared.scenario_text.ScenarioText.{ScenarioText}
-use Rattle.gen_report.specs.declared.scenario_text.ScenarioText.TheVariants as texts
-use Rattle.gen_report.specs.Scenario.{SpellsScenario}
-use Rattle.gen_report.specs.ScenarioReading.{scenario_of}
+use Rattle.gen_text.specs.declared.scenario_text.ScenarioText.{ScenarioText}
+use Rattle.gen_text.specs.declared.scenario_text.ScenarioText.TheVariants as texts
+use Rattle.gen_text.specs.Scenario.{SpellsScenario}
+use Rattle.gen_text.specs.ScenarioReading.{scenario_of}
 use Rattle.gen_report.specs.Decisions.{decisions_text}
 use Rattle.gen_facts.specs.Facts.{decided_fact}
 use Rattle.gen_facts.specs.declared.fact.Fact.{Fact}

@@ -76,6 +76,7 @@ same_choices p given is = λ i. record {
   faulty = faulty_asked (sym is.faulty i);
   strict = is_set (sym is.strict i);
   form = form_asked (sym is.json i);
+  receipts = is_set (sym is.receipts i);
   height = height_asked (sym is.tall i);
   version = version_asked (sym is.slot i);
 }

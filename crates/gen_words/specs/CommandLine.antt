@@ -23,7 +23,7 @@ capacity = record (option_named (codes "capacity")) { defaults = codes "1" ∷ [
 abbrev pub workers : Rule
 workers = record (option_named (codes "workers")) { defaults = codes "1" ∷ [] }
 
--- which general is accused; the option is required
+-- which general is accused, or has the log; the option is required
 abbrev pub general : Rule
 general = record (option_named (codes "general")) { required = true }
 
@@ -42,6 +42,10 @@ strict = flag_named (codes "strict")
 -- whether the answer is JSON
 abbrev pub json : Rule
 json = flag_named (codes "json")
+
+-- whether receipts are read in place of a bundle
+abbrev pub of_receipts : Rule
+of_receipts = flag_named (codes "receipts")
 
 -- whether a tree of keys has 64 leaves
 abbrev pub tall : Rule
@@ -103,10 +107,17 @@ abbrev pub draw : App
 draw = with_rule (with_asking (new_app (codes "draw"))) file
 
 abbrev pub accuse : App
-accuse = with_rule (with_rule (with_rule (new_app (codes "accuse")) general) asked) file
+accuse =
+    with_rule (with_rule (with_rule (with_rule (new_app (codes "accuse")) general) asked) of_receipts) file
 
 abbrev pub evidence : App
 evidence = with_rule (with_rule (with_rule (new_app (codes "evidence")) asked) json) file
+
+abbrev pub receipt : App
+receipt = with_rule (with_rule (with_rule (new_app (codes "receipt")) general) asked) file
+
+abbrev pub receipts : App
+receipts = with_rule (with_rule (with_rule (new_app (codes "receipts")) asked) json) file
 
 abbrev pub show : App
 show = with_rule (with_rule (with_rule (new_app (codes "show")) asked) json) file
@@ -158,17 +169,23 @@ with_audit = with_subcommand with_campaign audit.top
 abbrev pub with_draw : App
 with_draw = with_subcommand with_audit draw.top
 
-abbrev pub with_bundles : App
-with_bundles = with_subcommand with_draw accuse.top
+abbrev pub with_accuse : App
+with_accuse = with_subcommand with_draw accuse.top
 
--- the command line with the command that reads evidence, too
+-- the command line with the commands that show what evidence, a log or receipts say, too
 abbrev pub with_evidence : App
-with_evidence = with_subcommand with_bundles evidence.top
+with_evidence = with_subcommand with_accuse evidence.top
+
+abbrev pub with_receipt : App
+with_receipt = with_subcommand with_evidence receipt.top
+
+abbrev pub with_receipts : App
+with_receipts = with_subcommand with_receipt receipts.top
 
 -- the program's command line: with the commands that tell of files, names and texts, and those that prepare a
 -- run and a dispute, too
 abbrev pub with_show : App
-with_show = with_subcommand with_evidence show.top
+with_show = with_subcommand with_receipts show.top
 
 abbrev pub with_root : App
 with_root = with_subcommand with_show root.top

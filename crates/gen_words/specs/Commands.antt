@@ -21,6 +21,7 @@ pub record IsGiven (p : Text × List Row) (given : GivenCommand) : Type 0 where
   pub faulty : option_map (λ t. t.now) given.faulty ≡ first_of (codes "faulty") p.1
   pub strict : option_map (λ t. t.now) given.strict ≡ first_of (codes "strict") p.1
   pub json : option_map (λ t. t.now) given.json ≡ first_of (codes "json") p.1
+  pub receipts : option_map (λ t. t.now) given.receipts ≡ first_of (codes "receipts") p.1
   pub tall : option_map (λ t. t.now) given.tall ≡ first_of (codes "tall") p.1
   pub slot : option_map (λ t. t.now) given.slot ≡ first_of (codes "slot") p.1
   pub print_run : option_map (λ t. t.now) given.print_run ≡ first_of (codes "print-run") p.1
@@ -48,6 +49,7 @@ choices_in g = record {
   faulty = faulty_asked (option_map (λ t. t.now) g.faulty);
   strict = is_set (option_map (λ t. t.now) g.strict);
   form = form_asked (option_map (λ t. t.now) g.json);
+  receipts = is_set (option_map (λ t. t.now) g.receipts);
   height = height_asked (option_map (λ t. t.now) g.tall);
   version = version_asked (option_map (λ t. t.now) g.slot);
 }

@@ -85,17 +85,28 @@ job_reading name (Some w) (Some asked) choices =
     Some (if bytes_eq name (codes "draw") then jobs.Draw w asked
     else jobs.Audit w asked choices.strict choices.form)
 
--- the job `accuse`, if there is a general, and if the runs that are asked for are known
-abbrev pub job_accusing : Option ℕ → Option AskedRuns → Option Job
-job_accusing None runs = None
-job_accusing (Some g) None = None
-job_accusing (Some g) (Some runs) = Some (jobs.Accuse g runs)
+-- the job that accuses a general of these runs, by receipts or by a bundle
+abbrev pub accusing : Bool → ℕ → AskedRuns → Job
+accusing true g runs = jobs.AccuseReceipts g runs
+accusing false g runs = jobs.Accuse g runs
 
--- the job of a command that shows, prepares or tells: `evidence` or `show`, if the runs that are asked for
--- are known, `root`, `header` or `plan`, if its version is known, or one that tells what its name says
+-- the job that accuses, if there is a general, and if the runs that are asked for are known
+abbrev pub job_accusing : Option ℕ → Choices → Option Job
+job_accusing None choices = None
+job_accusing (Some g) choices = option_map (λ runs. accusing choices.receipts g runs) choices.runs
+
+-- the job `receipt`, if there is a general, and if the runs that are asked for are known
+abbrev pub job_of_receipt : Option ℕ → Choices → Option Job
+job_of_receipt None choices = None
+job_of_receipt (Some g) choices = option_map (λ runs. jobs.Receipt g runs) choices.runs
+
+-- the job of a command that shows, prepares or tells: `evidence`, `receipts` or `show`, if the runs that are
+-- asked for are known, `root`, `header` or `plan`, if its version is known, or one that tells what its name
+-- says
 unfoldable pub job_showing : Text → Choices → Option Job
 job_showing name choices =
     if bytes_eq name (codes "evidence") then option_map (λ r. jobs.Evidence r choices.form) choices.runs
+    else if bytes_eq name (codes "receipts") then option_map (λ r. jobs.Receipts r choices.form) choices.runs
     else if bytes_eq name (codes "show") then option_map (λ r. jobs.Show r choices.form) choices.runs
     else if bytes_eq name (codes "root") then Some (jobs.Root choices.height)
     else if bytes_eq name (codes "header") then option_map (λ version. jobs.Header version) choices.version
@@ -104,10 +115,11 @@ job_showing name choices =
     else if bytes_eq name (codes "words") then Some (jobs.Tell tellings.Text)
     else None
 
--- the job `accuse`, if the text is a number from 0 to 15, or one of the others
+-- the job of `accuse` or `receipt`, if the text is a number from 0 to 15, or one of the others
 unfoldable pub job_against : Text → Option Text → Choices → Option Job
 job_against name general choices =
-    if bytes_eq name (codes "accuse") then job_accusing (number_between 0 15 general) choices.runs
+    if bytes_eq name (codes "accuse") then job_accusing (number_between 0 15 general) choices
+    else if bytes_eq name (codes "receipt") then job_of_receipt (number_between 0 15 general) choices
     else job_showing name choices
 
 -- the job of a command, whose options have these texts, and which chooses this
@@ -130,6 +142,7 @@ choices_told rows = record {
   faulty = faulty_asked (first_of (codes "faulty") rows);
   strict = is_set (first_of (codes "strict") rows);
   form = form_asked (first_of (codes "json") rows);
+  receipts = is_set (first_of (codes "receipts") rows);
   height = height_asked (first_of (codes "tall") rows);
   version = version_asked (first_of (codes "slot") rows);
 }

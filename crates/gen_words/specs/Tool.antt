@@ -62,7 +62,7 @@ takes_workers name =
 
 -- whether a command takes a general
 abbrev pub takes_general : Text → Bool
-takes_general name = bytes_eq name (codes "accuse")
+takes_general name = bytes_eq name (codes "accuse") || bytes_eq name (codes "receipt")
 
 -- whether a command takes a slot
 abbrev pub takes_slot : Text → Bool
@@ -72,7 +72,8 @@ takes_slot name = bytes_eq name (codes "header") || bytes_eq name (codes "plan")
 abbrev pub takes_runs : Text → Bool
 takes_runs name =
     bytes_eq name (codes "audit") || bytes_eq name (codes "draw") || bytes_eq name (codes "accuse")
-    || bytes_eq name (codes "evidence") || bytes_eq name (codes "show")
+    || bytes_eq name (codes "evidence") || bytes_eq name (codes "receipt") || bytes_eq name (codes "receipts")
+    || bytes_eq name (codes "show")
 
 -- whether a command takes the generals that are held for faulty
 abbrev pub takes_faulty : Text → Bool

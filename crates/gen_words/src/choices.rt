@@ -15,6 +15,8 @@ pub(crate) struct Choices {
     pub(crate) strict: bool,
     /// The form of the answer.
     pub(crate) form: Form,
+    /// Whether receipts are read in place of a bundle.
+    pub(crate) receipts: bool,
     /// The height of a tree of keys.
     pub(crate) height: TreeHeight,
     /// The version of a header, if the text of its slot spells one.

@@ -19,17 +19,20 @@ Examples:
   sm_tool draw split.bundle > split.svg
   sm_tool accuse --general 0 split.bundle > split.evidence
   sm_tool evidence --run RUNID split.evidence
+  sm_tool receipt --general 1 split.bundle > 1.receipt
+  cat ?.receipt | sm_tool receipts
   sm_tool show split.evidence
   sm_tool explain N8
 
 Each command reads FILE to its end, or standard input if there is no FILE or it is '-', and writes nothing before its
-output is whole. Bundles, campaigns and evidence are bytes: redirect them.
+output is whole. Bundles, campaigns, evidence and receipts are bytes: redirect them.
 
 Exit status:
   0  done: the output is whole, and doesn't say no; a picture never does
   1  done: a verdict of audit or judge is a no, evidence fails, or there is no evidence against the general; with
-     --strict also: a verdict is 'explained'; of show, the file doesn't read whole; of plan, the plan fails; of explain,
-     there is no such name
+     --strict also: a verdict is 'explained'; of receipt, no log of the general shows its decision; of receipts, no order
+     is shown, or several are; of show, the file doesn't read whole; of plan, the plan fails; of explain, there is no
+     such name
   2  the words ask for nothing that there is, or bytes would go to a terminal
   3  the input has a fault, which standard error names; 'fault R1' says that it is of another run
   4  memory or a thread was refused
@@ -196,24 +199,56 @@ fn with_scenarios<'a>(alloc: Global, tool: CommandBuilder<'a>) -> CommandBuilder
         .subcommand(campaign)
 }
 
-/// Returns the command line with the commands that read a bundle, evidence or a file of another kind: `audit`, `draw`,
-/// `accuse`, `evidence` and `show`.
+/// Returns the option `--general`, which is required, of which the help says this.
+fn general_option<'a>(alloc: Global, help: &'a str) -> Arg<'a>
+    ensures rule { rule_of result ≡ lines.general }
+    ensures local { result.global ≡ false }
+{
+    option_named(alloc, "general", "G", help).required(true)
+}
+
+/// Returns the command line with the commands that judge a bundle or a campaign: `audit`, `draw` and `accuse`.
 fn with_bundles<'a>(alloc: Global, tool: CommandBuilder<'a>) -> CommandBuilder<'a>
     ensures kept { result.refused ≡ false → tool.entry.refused ≡ false }
     ensures app { result.refused ≡ false → app_of tool.entry.command ≡ lines.with_campaign
-        → app_of result.command ≡ lines.with_show }
+        → app_of result.command ≡ lines.with_accuse }
 {
     let about = "Reads a bundle of logs, or a campaign, and prints whether a run explains them";
     let audit = with_asking(alloc, CommandBuilder::new(alloc, "audit", about));
     let about = "Reads a bundle of logs, or a campaign, and writes its picture, an SVG text";
     let draw = with_asking(alloc, CommandBuilder::new(alloc, "draw", about));
     let about = "Reads a bundle or a campaign and writes the evidence against a general";
+    let receipts = "Reads receipts in place of a bundle";
     let accuse = CommandBuilder::new(alloc, "accuse", about)
-        .arg(option_named(alloc, "general", "G", "Who is accused, 0 to 15").required(true))
+        .arg(general_option(alloc, "Who is accused, 0 to 15"))
         .arg(asked_option(alloc))
+        .arg(flag_named(alloc, "receipts", receipts))
         .arg(file_argument(alloc));
+    tool.subcommand(with_verdict(alloc, audit))
+        .subcommand(draw.arg(file_argument(alloc)))
+        .subcommand(accuse)
+}
+
+/// Returns the command line with the commands that show what evidence, a log, receipts or a file says: `evidence`,
+/// `receipt`, `receipts` and `show`.
+fn with_showing<'a>(alloc: Global, tool: CommandBuilder<'a>) -> CommandBuilder<'a>
+    ensures kept { result.refused ≡ false → tool.entry.refused ≡ false }
+    ensures app { result.refused ≡ false → app_of tool.entry.command ≡ lines.with_accuse
+        → app_of result.command ≡ lines.with_show }
+{
     let about = "Reads evidence and prints whether it holds";
     let evidence = CommandBuilder::new(alloc, "evidence", about)
+        .arg(asked_option(alloc))
+        .arg(flag_named(alloc, "json", ONE_OBJECT))
+        .arg(file_argument(alloc));
+    let about =
+        "Reads a bundle and writes the receipt of a general's log, which shows its decision";
+    let receipt = CommandBuilder::new(alloc, "receipt", about)
+        .arg(general_option(alloc, "Whose log it is, 0 to 15"))
+        .arg(asked_option(alloc))
+        .arg(file_argument(alloc));
+    let about = "Reads receipts of a run and prints which order more than m generals show";
+    let receipts = CommandBuilder::new(alloc, "receipts", about)
         .arg(asked_option(alloc))
         .arg(flag_named(alloc, "json", ONE_OBJECT))
         .arg(file_argument(alloc));
@@ -223,10 +258,9 @@ fn with_bundles<'a>(alloc: Global, tool: CommandBuilder<'a>) -> CommandBuilder<'
         .arg(asked_option(alloc))
         .arg(flag_named(alloc, "json", OBJECT_IN_EACH_LINE))
         .arg(file_argument(alloc));
-    tool.subcommand(with_verdict(alloc, audit))
-        .subcommand(draw.arg(file_argument(alloc)))
-        .subcommand(accuse)
-        .subcommand(evidence)
+    tool.subcommand(evidence)
+        .subcommand(receipt)
+        .subcommand(receipts)
         .subcommand(show)
 }
 
@@ -290,8 +324,8 @@ fn with_telling<'a>(alloc: Global, tool: CommandBuilder<'a>) -> CommandBuilder<'
 }
 
 /// Returns the command line of the program, with all its commands: those that read a scenario or a campaign, those that
-/// read a bundle, evidence or a file, those that prepare a run or a dispute, and those that tell what a text means. One
-/// of them is required. It fails only if memory is refused.
+/// judge a bundle, those that show what evidence, a log, receipts or a file says, those that prepare a run or a dispute,
+/// and those that tell what a text means. One of them is required. It fails only if memory is refused.
 pub fn tool_command<'a>(alloc: Global) -> Result<Command<'a>, AllocError>
     ensures { IfOk result (λ c. app_of c ≡ lines.tool) }
 {
@@ -303,6 +337,7 @@ pub fn tool_command<'a>(alloc: Global) -> Result<Command<'a>, AllocError>
         .subcommand_required(true);
     let tool = with_scenarios(alloc, CommandBuilder::of(alloc, bare));
     let tool = with_bundles(alloc, tool);
+    let tool = with_showing(alloc, tool);
     let tool = with_preparing(alloc, tool);
     with_telling(alloc, tool).finish()
 }

@@ -4,7 +4,7 @@ ghost use Rattle.clap.specs.Words.{fault_of};
 ghost use Rattle.gen_net.specs.Version.{greatest_slot, slot_in};
 ghost use Rattle.gen_asked.specs.Ranges.{IsInRange};
 ghost use Rattle.gen_words.specs.CommandLine.{tool};
-ghost use Rattle.gen_words.specs.Jobs.{asked_of, faulty_asked, is_set, job_against, job_named, job_reading, job_showing, HasSlot, number_between, version_asked, runs_asked};
+ghost use Rattle.gen_words.specs.Jobs.{asked_of, faulty_asked, is_set, job_accusing, job_against, job_named, job_of_receipt, job_reading, job_showing, HasSlot, number_between, version_asked, runs_asked};
 ghost use Rattle.gen_words.specs.Commands.{Gives, HasSubcommand, choices_in};
 ghost use Rattle.gen_words.specs.Tool.{asked, is_missing, refusal, takes_runs, takes_slot, Asks, IsFaultOf};
 ghost use Rattle.gen_words.specs.declared.words.WordsFault.TheVariants.{Memory};
@@ -110,6 +110,8 @@ pub(crate) struct GivenCommand<'a> {
     pub(crate) strict: Option<&'a str>,
     /// `true` for `--json`, and `false` without it, if the command takes it.
     pub(crate) json: Option<&'a str>,
+    /// `true` for `--receipts`, and `false` without it, if the command takes it.
+    pub(crate) receipts: Option<&'a str>,
     /// `true` for `--tall`, and `false` without it, if the command takes it.
     pub(crate) tall: Option<&'a str>,
     /// The text of `--slot`, if it is given.
@@ -219,6 +221,7 @@ fn choices_of(alloc: Global, given: &GivenCommand<'_>) -> Result<Choices, AllocE
         } else {
             Form::Text
         },
+        receipts: is_set(given.receipts),
         height: if is_set(given.tall) {
             TreeHeight::Six
         } else {
@@ -228,9 +231,9 @@ fn choices_of(alloc: Global, given: &GivenCommand<'_>) -> Result<Choices, AllocE
     })
 }
 
-/// Returns the job of a command that shows, prepares or tells: `evidence` or `show`, if the runs that are asked for are
-/// known, `root`, `header` or `plan`, if its version is known, or one that tells what its name says; none for any other
-/// name.
+/// Returns the job of a command that shows, prepares or tells: `evidence`, `receipts` or `show`, if the runs that are asked
+/// for are known, `root`, `header` or `plan`, if its version is known, or one that tells what its name says; none for any
+/// other name.
 #[tactic(auto, unfolding(crate::specs::Jobs::job_showing))]
 fn job_showing(name: &str, choices: &Choices) -> Option<Job>
     requires { HasSlot choices.now }
@@ -239,6 +242,10 @@ fn job_showing(name: &str, choices: &Choices) -> Option<Job>
 {
     match name {
         "evidence" => Some(Job::Evidence {
+            asked: choices.runs?,
+            form: choices.form,
+        }),
+        "receipts" => Some(Job::Receipts {
             asked: choices.runs?,
             form: choices.form,
         }),
@@ -290,6 +297,33 @@ fn job_reading(name: &str, workers: Option<&str>, choices: &Choices) -> Option<J
     }
 }
 
+/// Returns the job that accuses a general, by receipts or by a bundle, if the general and the runs that are asked for are
+/// known.
+fn job_accusing(general: Option<&str>, choices: &Choices) -> Option<Job>
+    ensures said { result ≡ job_accusing (number_between 0 15 (option_map (λ t. t.now) general.entry))
+        choices.now }
+    ensures range { IfSome result IsInRange }
+{
+    let general = general_of(general)?;
+    let asked = choices.runs?;
+    if choices.receipts {
+        Some(Job::AccuseReceipts { general, asked })
+    } else {
+        Some(Job::Accuse { general, asked })
+    }
+}
+
+/// Returns the job `receipt`, if the general and the runs that are asked for are known.
+fn job_of_receipt(general: Option<&str>, choices: &Choices) -> Option<Job>
+    ensures said { result ≡ job_of_receipt (number_between 0 15 (option_map (λ t. t.now) general.entry))
+        choices.now }
+    ensures range { IfSome result IsInRange }
+{
+    let general = general_of(general)?;
+    let asked = choices.runs?;
+    Some(Job::Receipt { general, asked })
+}
+
 /// Returns the job of a command, by the texts of its options and what it chooses.
 #[tactic(auto, unfolding(crate::specs::Jobs::job_against))]
 fn job_of(
@@ -319,19 +353,27 @@ fn job_of(
             capacity: number_between(capacity, 1, MOST_CAPACITY)?,
         }),
         "audit" | "draw" => job_reading(name, workers, choices),
-        "accuse" => Some(Job::Accuse {
-            general: general_of(general)?,
-            asked: choices.runs?,
-        }),
+        "accuse" => job_accusing(general, choices),
+        "receipt" => job_of_receipt(general, choices),
         _ => job_showing(name, choices),
     }
 }
 
-/// Whether a command takes the runs that are asked for, and they are not known.
+/// Returns whether a command takes the runs that are asked for.
+fn takes_runs(name: &str) -> bool
+    ensures { result ≡ takes_runs name.now }
+{
+    matches!(
+        name,
+        "audit" | "draw" | "accuse" | "evidence" | "receipt" | "receipts" | "show"
+    )
+}
+
+/// Returns whether a command takes the runs that are asked for, and they are not known.
 fn lacks_runs(name: &str, choices: &Choices) -> bool
     ensures { result ≡ (takes_runs name.now && is_missing choices.now.runs) }
 {
-    matches!(name, "audit" | "draw" | "accuse" | "evidence" | "show") && choices.runs.is_none()
+    takes_runs(name) && choices.runs.is_none()
 }
 
 /// Returns whether a command takes a slot that is not known.
@@ -362,7 +404,9 @@ fn refusal_of(
         && number_between(workers, 1, MOST_WORKERS).is_none()
     {
         WordsFault::BadWorkers
-    } else if name == "accuse" && number_between(general, 0, LAST_GENERAL).is_none() {
+    } else if matches!(name, "accuse" | "receipt")
+        && number_between(general, 0, LAST_GENERAL).is_none()
+    {
         WordsFault::BadGeneral
     } else if lacks_slot(name, choices) {
         WordsFault::BadSlot
@@ -412,6 +456,7 @@ pub(crate) fn given_in<'a>(
         faulty: inner.get_str("faulty"),
         strict: inner.get_str("strict"),
         json: inner.get_str("json"),
+        receipts: inner.get_str("receipts"),
         tall: inner.get_str("tall"),
         slot: inner.get_str("slot"),
         print_run: inner.get_str("print-run"),

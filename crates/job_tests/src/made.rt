@@ -8,8 +8,8 @@ use gen_campaign::{
     texts_make_campaigns,
 };
 use gen_jobs::{JobEnd, do_job};
-use gen_report::{ScenarioText, read_scenario};
 use gen_scenario::Scenario;
+use gen_text::{ScenarioText, read_scenario};
 use std::alloc::Global;
 use std::sync::Wait;
 use std::test::Fail;

@@ -8,8 +8,8 @@ use gen_local::laws as reports;
 use gen_log::laws as logs;
 use gen_match::laws as matching;
 use gen_net::laws as headers;
-use gen_report::one_scenario;
 use gen_script::one_script_line;
+use gen_text::one_scenario;
 
 #[test]
 fn laws_of_values() {

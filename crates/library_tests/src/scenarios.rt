@@ -1,7 +1,7 @@
 //! Scenarios that are run, and logs that are compared.
 use gen_log::SealedLog;
 use gen_net::Net;
-use gen_report::{ScenarioText, read_scenario};
+use gen_text::{ScenarioText, read_scenario};
 use gen_types::OrderNo;
 use gen_world::{Scenario, WorldRun, run_world};
 use std::alloc::{AllocError, Global};

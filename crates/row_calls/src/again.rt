@@ -11,8 +11,8 @@
 use crate::again_answers::{Answer, say, say_answer};
 use crate::{again_bundles, again_campaigns, again_scenarios};
 use gen_audit::{Bundle, read_bundle};
-use gen_report::{ScenarioText, read_scenario};
 use gen_scenario::Scenario;
+use gen_text::{ScenarioText, read_scenario};
 use std::alloc::Global;
 use std::io::{self, Read};
 use std::sync::Wait;

@@ -4,8 +4,8 @@ use crate::rows::Row;
 use crate::texts::Answer;
 use gen_campaign::read_campaign_text;
 use gen_net::Version;
-use gen_report::{ScenarioFault, ScenarioText, read_scenario};
 use gen_script::Script;
+use gen_text::{ScenarioFault, ScenarioText, read_scenario};
 use gen_types::ReadError;
 use std::alloc::Global;
 

@@ -3,16 +3,14 @@ use native.Mathlib.Omega.{arith}
 use Rattle.std.proofs.Common.{◌≡◌, ◌<◌, ◌≤◌, ℕ, Bool, true, false, if◌then◌else◌, List, Option, Some, None, Result, Ok, Err, inl, inr, refl, sym, subst}
 use Rattle.std.specs.Prelude.{IfOk, IfErr}
 use Rattle.std.proofs.lemmas.Option.{none-some, same_Some}
-use Rattle.gen_asked.specs.declared.asked_runs.AskedRuns.{AskedRuns}
-use Rattle.gen_asked.specs.declared.jobs.Job.TheVariants.{Accuse}
+use Rattle.gen_asked.specs.declared.jobs.Job.{Job}
 use Rattle.gen_ends.specs.declared.ends.JobFault.{JobFault}
 use Rattle.gen_ends.specs.declared.ends.JobFault.TheVariants as faults
 use Rattle.gen_facts.specs.declared.fact.Fact.{Fact}
-use Rattle.gen_judging.specs.Asking.{IsAccusedOf}
 use Rattle.gen_jobs.specs.declared.in_place.Answered.{Answered}
 use Rattle.gen_jobs.specs.Facts.{JobFacts}
-use Rattle.gen_jobs.specs.Jobs.{JobFails}
-use Rattle.sm_embed.specs.Knowing.{AccusesKnown, Knows}
+use Rattle.gen_jobs.specs.Jobs.{JobAnswers, JobFails}
+use Rattle.sm_embed.specs.Knowing.{Knows, MakesKnown}
 use Rattle.sm_embed.specs.Loops.Keeping.{Keeps}
 use Rattle.sm_embed.specs.Making.{IsMade, MakesJob, line_number}
 use Rattle.sm_embed.specs.declared.kept.Kept.{Kept}
@@ -34,6 +32,7 @@ numbered faults.OtherRun n e = let is : 7 ≡ n = same_Some 7 n e in omega arith
 numbered (faults.Scenario f) n e = let is : 3 ≡ n = same_Some 3 n e in omega arith
 numbered (faults.Campaign f) n e = let is : 3 ≡ n = same_Some 3 n e in omega arith
 numbered (faults.Evidence f) n e = let is : 3 ≡ n = same_Some 3 n e in omega arith
+numbered (faults.Receipt f) n e = let is : 3 ≡ n = same_Some 3 n e in omega arith
 numbered (faults.Log f) n e = let is : 3 ≡ n = same_Some 3 n e in omega arith
 numbered (faults.Seed f) n e = let is : 3 ≡ n = same_Some 3 n e in omega arith
 numbered (faults.EqualRoots a b) n e = let is : 3 ≡ n = same_Some 3 n e in omega arith
@@ -61,15 +60,15 @@ answered_at A B F held status few (inr (inr (inl x))) = let more : 3 ≤ status 
 answered_at A B F held status few (inr (inr (inr x))) = let is : status ≡ 4 = x.0 in absurd (omega arith)
 
 -- nothing is answered, so it does not matter whose the general is
-pub made_of_fault : (general : ℕ) (asked : AskedRuns) (input : List ℕ) (held : Option Kept) (status : ℕ) → 1 < status → MakesJob (Accuse general asked) input held status → AccusesKnown general asked input held status
-made_of_fault general asked input held status more (inl x) = let is : status ≡ 0 = x.0 in absurd (omega arith)
-made_of_fault general asked input held status more (inr (inl x)) = let is : status ≡ 1 = x.0 in absurd (omega arith)
-made_of_fault general asked input held status more (inr (inr x)) = inr (inr (inr x))
+pub made_of_fault : (job : Job) (general : ℕ) (input : List ℕ) (held : Option Kept) (status : ℕ) → 1 < status → MakesJob job input held status → MakesKnown job general input held status
+made_of_fault job general input held status more (inl x) = let is : status ≡ 0 = x.0 in absurd (omega arith)
+made_of_fault job general input held status more (inr (inl x)) = let is : status ≡ 1 = x.0 in absurd (omega arith)
+made_of_fault job general input held status more (inr (inr x)) = inr (inr (inr x))
 
 -- the general is one of a run's
-pub made_of_known : (general : ℕ) (asked : AskedRuns) (input : List ℕ) (held : Option Kept) (status : ℕ) → MakesJob (Accuse general asked) input held status → Knows general input true → AccusesKnown general asked input held status
-made_of_known general asked input held status made known = inr (made_too (IsAccusedOf asked general input) (JobFacts (Accuse general asked) input) (JobFails (Accuse general asked) input) (Knows general input true) held status known made)
+pub made_of_known : (job : Job) (general : ℕ) (input : List ℕ) (held : Option Kept) (status : ℕ) → MakesJob job input held status → Knows job general input true → MakesKnown job general input held status
+made_of_known job general input held status made known = inr (made_too (JobAnswers job None input) (JobFacts job input) (JobFails job input) (Knows job general input true) held status known made)
 
 -- the general is no run's, so what was made is dropped
-pub made_of_nobody : (general : ℕ) (asked : AskedRuns) (input : List ℕ) (made left : Option Kept) (status : ℕ) → status ≤ 1 → MakesJob (Accuse general asked) input made status → Knows general input false → left ≡ None → AccusesKnown general asked input left 6
-made_of_nobody general asked input made left status few is nobody empty = inl (refl, empty, (answered_at (IsAccusedOf asked general input) (JobFacts (Accuse general asked) input) (JobFails (Accuse general asked) input) made status few is, nobody))
+pub made_of_nobody : (job : Job) (general : ℕ) (input : List ℕ) (made left : Option Kept) (status : ℕ) → status ≤ 1 → MakesJob job input made status → Knows job general input false → left ≡ None → MakesKnown job general input left 6
+made_of_nobody job general input made left status few is nobody empty = inl (refl, empty, (answered_at (JobAnswers job None input) (JobFacts job input) (JobFails job input) made status few is, nobody))

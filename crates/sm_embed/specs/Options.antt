@@ -1,5 +1,5 @@
 -- What a caller in another language asks for.
-use Rattle.std.specs.Prelude.{ℕ, ◌==◌, not, if◌then◌else◌, List, [], ◌∷◌, Option, Some, None, option_map, option_and_then}
+use Rattle.std.specs.Prelude.{ℕ, ◌==◌, not, if◌then◌else◌, Bool, List, [], ◌∷◌, Option, Some, None, option_map, option_and_then}
 use Rattle.gen_asked.specs.AskedRuns.{few_runs}
 use Rattle.gen_asked.specs.declared.asked_runs.AskedRuns.{AskedRuns}
 use Rattle.gen_asked.specs.declared.asked_runs.AskedRuns.TheVariants.{Any}
@@ -11,7 +11,9 @@ use Rattle.gen_asked.specs.declared.jobs.Job.TheVariants as jobs
 use Rattle.sm_embed.specs.declared.options.SmOptions.{SmOptions}
 use Rattle.sm_embed.specs.declared.options.Wanted.{Wanted}
 use Rattle.sm_embed.specs.declared.options.Task.{Task}
-use Rattle.sm_embed.specs.declared.options.Task.TheVariants.{Audit, Draw, Evidence, Decide, Show}
+use Rattle.sm_embed.specs.declared.options.Task.TheVariants.{Audit, Draw, Evidence, Receipts, Decide, Show}
+use Rattle.sm_embed.specs.declared.options.GeneralTask.{GeneralTask}
+use Rattle.sm_embed.specs.declared.options.GeneralTask.TheVariants.{Accuse, Receipt}
 
 -- the runs with these ids: any for none, and None for more than four
 abbrev pub asked_in : List (List ℕ) → Option AskedRuns
@@ -22,12 +24,21 @@ asked_in (id ∷ ids) = few_runs (id ∷ ids)
 abbrev pub form_in : ℕ → Option Form
 form_in number = if number == 0 then Some Text else if number == 1 then Some Json else None
 
--- what options ask for, if their runs are at most four, and their form is one; a strict number is any but 0
+-- whether a number says yes: any but 0
+abbrev pub says_yes : ℕ → Bool
+says_yes number = not (number == 0)
+
+-- what options ask for, if their runs are at most four, and their form is one
 abbrev pub wanted_in : SmOptions → Option Wanted
 wanted_in options =
     option_and_then
     (λ runs. option_map
-    (λ form. record { runs = runs; strict = not (options.strict == 0); form = form })
+    (λ form. record {
+      runs = runs;
+      strict = says_yes options.strict;
+      form = form;
+      receipts = says_yes options.receipts;
+    })
     (form_in options.form))
     (asked_in options.runs.now)
 
@@ -36,5 +47,12 @@ abbrev pub job_of : Task → Wanted → Job
 job_of Audit w = jobs.Audit 1 (record { runs = w.runs; faulty = Listed }) w.strict w.form
 job_of Draw w = jobs.Draw 1 (record { runs = w.runs; faulty = Listed })
 job_of Evidence w = jobs.Evidence w.runs w.form
+job_of Receipts w = jobs.Receipts w.runs w.form
 job_of Decide w = jobs.Decide w.form
 job_of Show w = jobs.Show w.runs w.form
+
+-- the job of a task about a general: it is accused by receipts or by a bundle, or its receipt is written
+abbrev pub job_about : GeneralTask → ℕ → Wanted → Job
+job_about Accuse general w =
+    if w.receipts then jobs.AccuseReceipts general w.runs else jobs.Accuse general w.runs
+job_about Receipt general w = jobs.Receipt general w.runs

@@ -1,14 +1,23 @@
-//! Finds evidence against a general, and tells if the general is no run's.
-ghost use Rattle.std.specs.Prelude.{◌≡◌, ◌<◌, IfSome};
-ghost use Rattle.sm_embed.specs.Knowing.{AccusesKnown, Knows, is_known};
+//! Makes the answer of a job about a general, and tells if the general is no run's.
+ghost use Rattle.std.specs.Prelude.{◌≡◌, ◌<◌, ◌≤◌, IfSome};
+ghost use Rattle.gen_asked.specs.Ranges.{IsInRange};
+ghost use Rattle.sm_embed.specs.Knowing.{Knows, MakesAbout, MakesKnown, ReceiptsKnow, RunsKnow, is_known};
+ghost use Rattle.sm_embed.specs.Making.{IsMisuse};
+ghost use Rattle.sm_embed.specs.Options.{job_about, wanted_in};
 
 use crate::making::keep_job;
-use crate::numbers::{MEMORY, NO, NOBODY};
+use crate::numbers::{MEMORY, MISUSE, NO, NOBODY};
 use crate::opaque::SmAnswer;
-use gen_asked::{AskedRuns, Job};
+use crate::options::{GeneralTask, SmOptions, job_about, wanted_in};
+use gen_asked::Job;
 use gen_campaign::{CampaignBundle, read_campaign};
+use gen_receipt::read_receipts;
 use gen_types::GeneralNo;
+use gen_types::limits::MOST_GENERALS;
 use std::alloc::Global;
+
+/// The numbers of generals are below this.
+const GENERALS: u32 = MOST_GENERALS as u32;
 
 /// Returns whether a number is that of a general of some run that is shown.
 fn is_known(general: GeneralNo, shown: &CampaignBundle) -> bool
@@ -23,8 +32,8 @@ fn is_known(general: GeneralNo, shown: &CampaignBundle) -> bool
 
 /// Returns whether a general is one of a run that the input shows. None if memory was refused, or the input is no bundle
 /// and no campaign.
-fn knows(alloc: Global, general: GeneralNo, input: &[u8]) -> Option<bool>
-    ensures { IfSome result (Knows general input.now) }
+fn runs_know(alloc: Global, general: GeneralNo, input: &[u8]) -> Option<bool>
+    ensures { IfSome result (RunsKnow general input.now) }
 {
     match read_campaign(alloc, input) {
         Ok(shown) => Some(is_known(general, &shown)),
@@ -32,24 +41,49 @@ fn knows(alloc: Global, general: GeneralNo, input: &[u8]) -> Option<bool>
     }
 }
 
-/// Makes the answer of the evidence against a general, of the runs that are asked for, and returns the number that says
-/// what is held. It is 6, and nothing is held, if the general is no run's. What was held before is dropped first.
+/// Returns whether a general is one of the run of the receipts in the input. None if memory was refused, or the input is
+/// no receipts.
+fn receipts_know(alloc: Global, general: GeneralNo, input: &[u8]) -> Option<bool>
+    ensures { IfSome result (ReceiptsKnow general input.now) }
+{
+    match read_receipts(alloc, input) {
+        Ok(read) => Some(general.get() < read.header.net().generals()),
+        Err(_) => None,
+    }
+}
+
+/// Returns whether a general is one of the input that a job reads. None if memory was refused, or the input is no such
+/// input.
+fn knows(alloc: Global, job: &Job, general: GeneralNo, input: &[u8]) -> Option<bool>
+    ensures { IfSome result (Knows job.now general input.now) }
+{
+    match job {
+        Job::AccuseReceipts {
+            general: _,
+            asked: _,
+        } => receipts_know(alloc, general, input),
+        _ => runs_know(alloc, general, input),
+    }
+}
+
+/// Makes the answer of a job about a general, and returns the number that says what is held. It is 6, and nothing is held,
+/// if the general is none of the input's. What was held before is dropped first.
 #[tactic(auto, using(crate::proofs::Given::made_of_fault, crate::proofs::Given::made_of_known, crate::proofs::Given::made_of_nobody))]
-pub(crate) fn accuse_known(
+fn keep_known(
     alloc: Global,
+    job: &Job,
     general: GeneralNo,
-    asked: AskedRuns,
     input: &[u8],
     answer: &mut SmAnswer,
 ) -> u32
-    requires { general < 16 }
-    ensures { AccusesKnown general asked input.now answer.new.held result }
+    requires { IsInRange job.now }
+    ensures { MakesKnown job.now general input.now answer.new.held result }
 {
-    let number = keep_job(alloc, Job::Accuse { general, asked }, input, answer);
+    let number = keep_job(alloc, *job, input, answer);
     if number > NO {
         return number;
     }
-    match knows(alloc, general, input) {
+    match knows(alloc, job, general, input) {
         Some(true) => number,
         Some(false) => {
             answer.clear(alloc);
@@ -59,5 +93,33 @@ pub(crate) fn accuse_known(
             answer.clear(alloc);
             MEMORY
         }
+    }
+}
+
+/// Makes the answer of a task about the general of a number, as options ask for it, and returns the number that says what
+/// is held. What was held before is dropped first.
+pub(crate) fn make_about(
+    alloc: Global,
+    task: GeneralTask,
+    general: u32,
+    input: &[u8],
+    options: &SmOptions,
+    answer: &mut SmAnswer,
+) -> u32
+    ensures general { general < 16 → MakesAbout (job_about task general) general input.now
+        (wanted_in options.now) answer.new.held result }
+    ensures nobody { 16 ≤ general → IsMisuse answer.new.held result }
+{
+    answer.clear(alloc);
+    if general >= GENERALS {
+        return MISUSE;
+    }
+    let about = GeneralNo::at(general as u8);
+    match wanted_in(options) {
+        Some(wanted) => {
+            let job = job_about(task, about, wanted);
+            keep_known(alloc, &job, about, input, answer)
+        }
+        None => MISUSE,
     }
 }

@@ -11,7 +11,7 @@
 //! | 2 | nothing: the number of a general is above 15, that of a form is above 1, or more than four runs are asked for |
 //! | 3 | the line that names the input's fault, as the program writes it, without its LF |
 //! | 4 | nothing: memory was refused |
-//! | 6 | nothing: the general is none of the run's (`sm_accuse` alone) |
+//! | 6 | nothing: the general is none of the run's (`sm_accuse` and `sm_receipt` alone) |
 //! | 7 | the line that says that the input is of another run than the one that is asked for |
 //!
 //! `sm_answer_text` and `sm_answer_facts` hand over what is held, as often as they are asked. At 0 it stands in the room,
@@ -31,9 +31,10 @@ ghost use Rattle.gen_making.specs.Joining.{IsReplyFault};
 ghost use Rattle.gen_net.specs.declared.version.Version.TheVariants.{One};
 ghost use Rattle.gen_prepare.specs.Answering.{IsAnswered};
 ghost use Rattle.sm_embed.specs.Handing.{Hands};
-ghost use Rattle.sm_embed.specs.Knowing.{AccusesBy};
+ghost use Rattle.sm_embed.specs.Knowing.{MakesAbout};
 ghost use Rattle.sm_embed.specs.Making.{AreNone, HoldsRuns, IsMade, IsMisuse, MakesBy, MakesJob};
-ghost use Rattle.sm_embed.specs.Options.{job_of, wanted_in};
+ghost use Rattle.sm_embed.specs.Options.{job_about, job_of, wanted_in};
+ghost use Rattle.sm_embed.specs.declared.options.GeneralTask.TheVariants as abouts;
 ghost use Rattle.sm_embed.specs.declared.options.Task.TheVariants as tasks;
 
 mod handing;
@@ -47,22 +48,17 @@ mod options;
 
 use crate::handing::put;
 use crate::kept::Kept;
-use crate::knowing::accuse_known;
+use crate::knowing::make_about;
 use crate::making::{hold, keep, keep_job, make};
 use crate::numbers::{DONE, FAULT, MEMORY, MISUSE};
 use crate::opaque::SmAnswer;
-use crate::options::{SmOptions, Task, wanted_in};
+use crate::options::{GeneralTask, SmOptions, Task};
 use gen_asked::{Job, Telling};
 use gen_facts::Fact;
 use gen_jobs::{Answered, answer_evidence};
 use gen_net::Version;
 use gen_show::file_runs;
-use gen_types::GeneralNo;
-use gen_types::limits::MOST_GENERALS;
 use std::alloc::Global;
-
-/// The numbers of generals are below this.
-const GENERALS: u32 = MOST_GENERALS as u32;
 
 /// Makes the answer of the verdict on the bundle or the campaign that the input spells, as the command `audit` writes it.
 /// Of the options it uses all three. The facts are those of the verdict.
@@ -92,9 +88,10 @@ pub extern "C" fn sm_draw(
     make(alloc, Task::Draw, input, options, answer)
 }
 
-/// Makes the answer of the evidence that the bundle or the campaign in the input holds against a general: the bytes that
-/// the command `accuse` writes. If there is none, there are no bytes, and the answer says no. It returns 6, and nothing is
-/// held, if the general is none of the run's. Of the options it uses the runs.
+/// Makes the answer of the evidence that the bundle or the campaign in the input holds against a general, or that the
+/// receipts in the input hold: the bytes that the command `accuse` writes. If there is none, there are no bytes, and the
+/// answer says no. It returns 6, and nothing is held, if the general is none of the run's. Of the options it uses the runs
+/// and whether the input is receipts.
 #[unsafe(no_mangle)]
 pub extern "C" fn sm_accuse(
     alloc: Global,
@@ -103,20 +100,12 @@ pub extern "C" fn sm_accuse(
     options: &SmOptions,
     answer: &mut SmAnswer,
 ) -> u32
-    ensures general { general < 16 →
-        AccusesBy general input.now (wanted_in options.now) answer.new.held result }
+    ensures general { general < 16 → MakesAbout (job_about abouts.Accuse general) general input.now
+        (wanted_in options.now) answer.new.held result }
     // The number is 16 or more, so it is no general's.
     ensures nobody { 16 ≤ general → IsMisuse answer.new.held result }
 {
-    answer.clear(alloc);
-    if general >= GENERALS {
-        return MISUSE;
-    }
-    let accused = GeneralNo::at(general as u8);
-    match wanted_in(options) {
-        Some(wanted) => accuse_known(alloc, accused, wanted.runs, input, answer),
-        None => MISUSE,
-    }
+    make_about(alloc, GeneralTask::Accuse, general, input, options, answer)
 }
 
 /// Makes the answer of whether the evidence that the input spells holds, as the command `evidence` writes it. Of the
@@ -131,6 +120,40 @@ pub extern "C" fn sm_evidence(
     ensures { MakesBy (job_of tasks.Evidence) input.now (wanted_in options.now) answer.new.held result }
 {
     make(alloc, Task::Evidence, input, options, answer)
+}
+
+/// Makes the answer of the receipt of a log of a general in the bundle that the input spells: the bytes that the command
+/// `receipt` writes. If no log of the general gives a receipt that holds, there are no bytes, and the answer says no. It
+/// returns 6, and nothing is held, if the general is none of the run's. Of the options it uses the runs.
+#[unsafe(no_mangle)]
+pub extern "C" fn sm_receipt(
+    alloc: Global,
+    general: u32,
+    input: &[u8],
+    options: &SmOptions,
+    answer: &mut SmAnswer,
+) -> u32
+    ensures general { general < 16 → MakesAbout (job_about abouts.Receipt general) general input.now
+        (wanted_in options.now) answer.new.held result }
+    // The number is 16 or more, so it is no general's.
+    ensures nobody { 16 ≤ general → IsMisuse answer.new.held result }
+{
+    make_about(alloc, GeneralTask::Receipt, general, input, options, answer)
+}
+
+/// Makes the answer of which orders the receipts in the input show, as the command `receipts` writes it. It says no unless
+/// exactly one order is shown. Of the options it uses the runs and the form. The facts are the orders, the receipts and
+/// the generals that two receipts convict.
+#[unsafe(no_mangle)]
+pub extern "C" fn sm_receipts(
+    alloc: Global,
+    input: &[u8],
+    options: &SmOptions,
+    answer: &mut SmAnswer,
+) -> u32
+    ensures { MakesBy (job_of tasks.Receipts) input.now (wanted_in options.now) answer.new.held result }
+{
+    make(alloc, Task::Receipts, input, options, answer)
 }
 
 /// Makes the answer of what each general without a script decides in the run of the scenario that the input spells, as

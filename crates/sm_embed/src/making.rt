@@ -22,6 +22,7 @@ fn line_number(fault: JobFault) -> Option<u32>
         JobFault::Scenario(_)
         | JobFault::Campaign(_)
         | JobFault::Evidence(_)
+        | JobFault::Receipt(_)
         | JobFault::Log(_)
         | JobFault::Seed(_)
         | JobFault::EqualRoots { .. } => Some(FAULT),

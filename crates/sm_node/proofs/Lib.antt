@@ -1,2 +1,4 @@
 mod Gathering
+mod Handed
+mod OwnLogs
 mod Values

@@ -1,17 +1,17 @@
 -- What the calls make of a node that is held: it is driven through its rounds, and ended.
 use Rattle.std.specs.Prelude.{ℕ, ◌≡◌, Bool, true, false, List, Option, Some, Ok, Err}
 use Rattle.gen_types.specs.Spelled.{Spells}
-use Rattle.gen_general.specs.Recording.{log_written}
+use Rattle.gen_general.specs.Recording.{Recorder, log_written}
 use Rattle.gen_node.specs.declared.frame_fault.FrameFault.{FrameFault}
 use Rattle.gen_node.specs.Frame.{IsFrame, frame_spelling}
 use Rattle.gen_node.specs.Longest.{IsInBounds}
 use Rattle.gen_node.specs.Node.{Node, IsBegun, awaits, decision_of_node, ended, frame_to, handed, header_at}
 use Rattle.gen_node.specs.Node.{is_awaited, is_over, may_begin, may_end}
-use Rattle.sm_node.specs.declared.held.EndedNode.{EndedNode}
 use Rattle.sm_node.specs.declared.held.NodeHandle.{NodeHandle}
 use Rattle.sm_node.specs.declared.held.NodeHandle.TheVariants.{Ended}
 use Rattle.sm_node.specs.declared.told.NodeReply.{NodeReply}
 use Rattle.sm_node.specs.declared.told.NodeReply.TheVariants.{Done, Misuse, Fault, Memory, Length}
+use Rattle.sm_node.specs.EndedNode.{EndedNode, IsOwnReceipt}
 use Rattle.sm_node.specs.Faults.{frame_number}
 use Rattle.sm_node.specs.Handing.{IsUntouched, PutsText}
 use Rattle.sm_node.specs.NodeHandle.{allows, has_ended, Becomes, IsRunning}
@@ -68,11 +68,14 @@ Hears from bytes old new fault Memory =
     (fault ≡ 0) × (new ≡ old) × (allows (λ n. is_awaited n from) old ≡ true)
 Hears from bytes old new fault Length = ⊥
 
--- the node ends after the last round, and its sealed log and its decision are left
+-- what is left of a node that has ended: its header, its sealed log and its decision
+abbrev pub ending_of : Recorder → EndedNode
+ending_of r = record { header = header_at r; log = log_written r; decision = decision_of_node r }
+
+-- the node ends after the last round, and this is left
 abbrev pub Finishes : Option NodeHandle → Option NodeHandle → NodeReply → Type 0
 Finishes old new Done =
-    (n : Node) × IsRunning old n × (is_over n ≡ true)
-    × (new ≡ Some (Ended (record { log = log_written n.recorder; decision = decision_of_node n.recorder })))
+    (n : Node) × IsRunning old n × (is_over n ≡ true) × (new ≡ Some (Ended (ending_of n.recorder)))
 Finishes old new Misuse = IsRefused is_over old new
 Finishes old new Memory = (new ≡ old) × (allows is_over old ≡ true)
 Finishes old new Fault = ⊥
@@ -90,6 +93,18 @@ HandsLog held old new count Length =
 HandsLog held old new count Misuse = IsUntouched old new count × (has_ended held ≡ false)
 HandsLog held old new count Memory = ⊥
 HandsLog held old new count Fault = ⊥
+
+-- the receipt of the log of a node that has ended is handed out, or its length alone; it holds
+abbrev pub HandsReceipt : Option NodeHandle → List ℕ → List ℕ → ℕ → NodeReply → Type 0
+HandsReceipt held old new count Done =
+    (e : EndedNode) × IsEnded held e
+    × ((text : List ℕ) × IsOwnReceipt e.header e.log text × PutsText text old new count Done)
+HandsReceipt held old new count Length =
+    (e : EndedNode) × IsEnded held e
+    × ((text : List ℕ) × IsOwnReceipt e.header e.log text × PutsText text old new count Length)
+HandsReceipt held old new count Misuse = IsUntouched old new count × (has_ended held ≡ false)
+HandsReceipt held old new count Memory = IsUntouched old new count × (has_ended held ≡ true)
+HandsReceipt held old new count Fault = ⊥
 
 -- the order that a node that has ended decided is told
 abbrev pub TellsOrder : Option NodeHandle → ℕ → NodeReply → Type 0

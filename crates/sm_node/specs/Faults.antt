@@ -5,6 +5,8 @@ use Rattle.gen_audit.specs.declared.bundle_fault.BundleFault.{BundleFault}
 use Rattle.gen_audit.specs.declared.bundle_fault.BundleFault.TheVariants as bundles
 use Rattle.gen_node.specs.declared.frame_fault.FrameFault.{FrameFault}
 use Rattle.gen_node.specs.FaultNumber.{fault_number}
+use Rattle.gen_receipt.specs.declared.receipt_fault.ReceiptFault.{ReceiptFault}
+use Rattle.gen_receipt.specs.declared.receipt_fault.ReceiptFault.TheVariants as receipts
 use Rattle.sm_node.specs.declared.faults.BytesFault.{BytesFault}
 use Rattle.sm_node.specs.declared.faults.BytesFault.TheVariants.{BadHeader, LeftOver}
 use Rattle.sm_node.specs.declared.faults.MakingFault.{MakingFault}
@@ -77,3 +79,12 @@ gather_pair (gathering.Header f) = no_pair
 gather_pair (gathering.NoWalk pair) = pair
 gather_pair (gathering.LongWalk pair) = pair
 gather_pair (gathering.Bundle f) = no_pair
+
+-- the number of a fault of receipts: 61 to 65, which is 60 more than its text has; or the number of its
+-- header's fault
+abbrev pub receipt_number : ReceiptFault → ℕ
+receipt_number receipts.Truncated = 61
+receipt_number receipts.UnknownMark = 62
+receipt_number (receipts.BadHeader f) = header_fault_number f
+receipt_number receipts.OutOfRange = 64
+receipt_number receipts.OtherRun = 65

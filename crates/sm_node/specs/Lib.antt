@@ -1,6 +1,7 @@
 pub mod Asking
 pub mod Bundles
 pub mod Driving
+pub mod EndedNode
 pub mod Faults
 pub mod Handing
 pub mod Headers
@@ -8,5 +9,6 @@ pub mod Heads
 pub mod NodeHandle
 pub mod Owning
 pub mod Plans
+pub mod Shown
 pub mod Starting
 pub mod NodeReply

@@ -5,7 +5,7 @@ use Rattle.gen_types.specs.declared.heights.TreeHeight.{TreeHeight}
 use Rattle.gen_types.specs.declared.heights.TreeHeight.TheVariants.{Four, Six}
 use Rattle.gen_types.specs.declared.reading.ReadError.{ReadError}
 use Rattle.gen_types.specs.declared.reading.ReadError.TheVariants as errors
-use Rattle.gen_tree.specs.Rings.{KeyTree, ring_root}
+use Rattle.gen_tree.specs.Rings.{ring_root}
 use Rattle.gen_net.specs.Header.{RunHeader, slot_of}
 use Rattle.gen_node.specs.declared.node_fault.NodeFault.{NodeFault}
 use Rattle.gen_node.specs.declared.node_fault.NodeFault.TheVariants as faults

@@ -1,27 +1,17 @@
 //! What the memory of a node for C holds.
 ghost use Rattle.std.specs.Prelude.{◌≡◌, Some};
-ghost use Rattle.sm_node.specs.Driving.{Begins, Ends, Finishes, HandsLog, Hears, Sends, TellsOrder};
+ghost use Rattle.sm_node.specs.Driving.{Begins, Ends, Finishes, HandsLog, HandsReceipt, Hears, Sends, TellsOrder};
 ghost use Rattle.sm_node.specs.NodeHandle.{running};
 
+use crate::ended::EndedNode;
 use crate::faults::FRAME_FAULTS;
 use crate::handing::put;
 use crate::told::NodeReply;
-use gen_log::SealedLog;
 use gen_node::{Node, NodeEnd};
-use gen_scenario::Decision;
 use gen_tree::KeyTree;
 use gen_types::{GeneralNo, ReadError};
 use std::alloc::Global;
 use std::mem::replace;
-
-/// What is left of a node that has ended.
-#[derive(Drop)]
-pub struct EndedNode {
-    /// Its log.
-    pub log: SealedLog,
-    /// What it decided.
-    pub decision: Decision,
-}
 
 /// The tree of a seed's keys, of which nodes are made in one slot after another.
 #[derive(Drop)]
@@ -168,13 +158,14 @@ impl NodeHandle {
         match node.finish(alloc) {
             Ok(
                 NodeEnd {
+                    header,
                     log,
                     decision,
                     ring,
                 },
             ) => {
                 ring.close();
-                *self = NodeHandle::Ended(EndedNode { log, decision });
+                *self = NodeHandle::Ended(EndedNode::new(header, log, decision));
                 NodeReply::Done
             }
             Err(node) => {
@@ -190,7 +181,21 @@ impl NodeHandle {
     {
         *count = 0;
         match self {
-            NodeHandle::Ended(ending) => put(ending.log.bytes(), room, count),
+            NodeHandle::Ended(ending) => put(ending.log_bytes(), room, count),
+            NodeHandle::Empty | NodeHandle::Keys(_) | NodeHandle::Running(_) => NodeReply::Misuse,
+        }
+    }
+
+    /// Hands out the receipt of the log of a node that has ended.
+    pub(crate) fn receipt(&self, alloc: Global, room: &mut [u8], count: &mut usize) -> NodeReply
+        ensures { HandsReceipt (Some self.now) room.old room.new count.new result }
+    {
+        *count = 0;
+        match self {
+            NodeHandle::Ended(ending) => match ending.receipt_bytes(alloc) {
+                Ok(text) => put(text.as_slice(), room, count),
+                Err(_) => NodeReply::Memory,
+            },
             NodeHandle::Empty | NodeHandle::Keys(_) | NodeHandle::Running(_) => NodeReply::Misuse,
         }
     }
@@ -202,7 +207,7 @@ impl NodeHandle {
         *order = 0;
         match self {
             NodeHandle::Ended(ending) => {
-                *order = u32::from(ending.decision.order.get());
+                *order = u32::from(ending.order().get());
                 NodeReply::Done
             }
             NodeHandle::Empty | NodeHandle::Keys(_) | NodeHandle::Running(_) => NodeReply::Misuse,

@@ -6,10 +6,12 @@
 //! | number | what it says |
 //! |---|---|
 //! | 0 | it was done |
+//! | 1 | it was done, and the answer is a no |
 //! | 2 | the call may not be made in this way, and nothing was changed |
 //! | 3 | what was handed in has a fault, whose number is told, and nothing was changed |
 //! | 4 | memory was refused: the same call may be made again |
 //! | 5 | the room is too short, and the length that is needed is told; nothing was changed |
+//! | 7 | what was handed in is of another run |
 //!
 //! No function keeps anything outside the node that it was handed, starts a thread, waits for one, prints, or ends the
 //! process. The contract of each function says what each `NodeReply` means for it, and what goes with it, as `Begins` does.
@@ -18,16 +20,18 @@
 ghost use Rattle.std.specs.Prelude.{◌≡◌, ◌<◌, ◌≤◌, None};
 ghost use Rattle.sm_node.specs.Asking.{Tells};
 ghost use Rattle.sm_node.specs.Bundles.{HandsBundle, logs_in, walks_by};
-ghost use Rattle.sm_node.specs.Driving.{Begins, Ends, Finishes, HandsLog, Hears, Sends, TellsOrder};
+ghost use Rattle.sm_node.specs.Driving.{Begins, Ends, Finishes, HandsLog, HandsReceipt, Hears, Sends, TellsOrder};
 ghost use Rattle.sm_node.specs.Handing.{IsUntouched};
 ghost use Rattle.sm_node.specs.Headers.{header_given, MakesHeader};
 ghost use Rattle.sm_node.specs.Heads.{TellsHead};
 ghost use Rattle.sm_node.specs.Plans.{TellsMost, TellsNeighbours, TellsNumbers, TellsRounds, TellsRunId};
+ghost use Rattle.sm_node.specs.Shown.{IsAnswered, TellsShown};
 ghost use Rattle.sm_node.specs.Starting.{MakesKeys, Starts};
 ghost use Rattle.sm_node.specs.NodeReply.{IsTold};
 
 mod asking;
 mod bundles;
+mod ended;
 mod faults;
 mod handing;
 mod headers;
@@ -36,6 +40,7 @@ mod held;
 mod loose;
 mod opaque;
 mod plans;
+mod shown;
 mod starting;
 mod told;
 
@@ -46,6 +51,7 @@ use crate::headers::{SmNumbers, make_header};
 use crate::heads::{SmFrameHead, tell_head};
 use crate::opaque::SmNode;
 use crate::plans::{numbers_of, with_header};
+use crate::shown::tell_shown;
 use crate::starting::{NUMBERS, make_keys, start};
 use crate::told::MISUSE;
 use gen_net::Header;
@@ -194,6 +200,39 @@ pub extern "C" fn sm_node_log(
     *count = 0;
     node.with_held(alloc, &mut |held| held.log(room, count))
         .status()
+}
+
+/// Hands out the bytes of the receipt of the log of a node that has ended. The receipt holds.
+#[unsafe(no_mangle)]
+pub extern "C" fn sm_node_receipt(
+    alloc: Global,
+    node: &mut SmNode,
+    room: &mut [u8],
+    count: &mut usize,
+) -> u32
+    ensures same { node.new.held ≡ node.old.held }
+    ensures receipt { IsTold (HandsReceipt node.old.held room.old room.new count.new) result }
+{
+    *count = 0;
+    node.with_held(alloc, &mut |held| held.receipt(alloc, room, count))
+        .status()
+}
+
+/// Tells the order that receipts show, if they are of the run with this id and show exactly one; otherwise 255 is in
+/// its place. Receipts show an order if more than m generals have a receipt among them that says the order and holds. The
+/// number is 0 then. It is 1 if no order is shown or several are, 3 if the bytes have a fault, whose number is told, 4 if
+/// memory was refused, and 7 if the receipts are of another run.
+#[unsafe(no_mangle)]
+pub extern "C" fn sm_node_shown(
+    alloc: Global,
+    run_id: &[u8; 32],
+    receipts: &[u8],
+    order: &mut u32,
+    fault: &mut u32,
+) -> u32
+    ensures { IsAnswered (TellsShown run_id.now receipts.now order.new fault.new) result }
+{
+    tell_shown(alloc, run_id, receipts, order, fault).status()
 }
 
 /// Tells the order that a node that has ended decided.

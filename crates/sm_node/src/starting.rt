@@ -15,8 +15,8 @@ use std::alloc::Global;
 /// The numbers of generals are below this. So are those of orders.
 pub(crate) const NUMBERS: u32 = MOST_GENERALS as u32;
 
-/// The number for a general that has no order.
-const NO_ORDER: u32 = 255;
+/// The number for a general that has no order, and for an order that isn't told.
+pub(crate) const NO_ORDER: u32 = 255;
 
 /// Makes the keys of a seed, for headers of this version, in a place that holds nothing, and writes their root.
 pub(crate) fn make_keys(

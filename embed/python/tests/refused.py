@@ -38,7 +38,7 @@ class Refusing:
 class Refused(unittest.TestCase):
     def test_nodes(self):
         until_done = Refusing("sm_node")
-        header, wanted, _ = drive(ALL)
+        header, wanted, _, receipts = drive(ALL)
         self.assertEqual(until_done(vamuretu.root, seed_of(0), 1), header.roots[0])
         self.assertEqual(until_done(vamuretu.read_header, header.data), header)
         self.assertEqual(until_done(ALL.header), header)
@@ -55,6 +55,8 @@ class Refused(unittest.TestCase):
             until_done(node.finish)
         logs = {node.general: until_done(node.log) for node in nodes}
         self.assertEqual(logs, wanted)
+        self.assertEqual([until_done(node.receipt) for node in nodes], receipts)
+        self.assertEqual(until_done(vamuretu.shown, header.run_id, b"".join(receipts)), ALL.order)
         words = header, [], logs.items()
         self.assertEqual(until_done(vamuretu.bundle, *words), vamuretu.bundle(*words))
         for node in nodes:
@@ -77,6 +79,8 @@ class Refused(unittest.TestCase):
         cases += [(vamuretu.show_json, bundle), (vamuretu.show_json, found)]
         cases += [(vamuretu.explain, "K2"), (vamuretu.words, b"verdict no\n"), (vamuretu.plan, bundle)]
         cases += [(vamuretu.audit_json, bundle), (vamuretu.evidence_json, found), (vamuretu.decide_json, scenario)]
+        receipts = b"".join(vamuretu.receipt(general, bundle) for general in range(3))
+        cases += [(vamuretu.receipt, 1, bundle), (vamuretu.receipts, receipts), (vamuretu.receipts_json, receipts)]
         cases += [(vamuretu.run_ids, it) for it in (bundle, found, vamuretu.evidence(found).header.data)]
         for call, *words in cases:
             with self.subTest(call.__name__):

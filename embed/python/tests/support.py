@@ -69,8 +69,8 @@ ALL = Four(list(itertools.combinations(range(4), 2)), 1, 3, 2)
 RING = Four([(1, 0), (1, 2), (3, 2), (0, 3)], 2, 2, 1, silent=(2,), slot=1)
 
 
-def drive(four: Four) -> Tuple[vamuretu.Header, Dict[int, bytes], Dict[int, int]]:
-    """The run by calls: its header, and the logs and the decisions of those who took part."""
+def drive(four: Four) -> Tuple[vamuretu.Header, Dict[int, bytes], Dict[int, int], List[bytes]]:
+    """The run by calls: its header, and the logs, the decisions and the receipts of those who took part."""
     header = four.header()
     nodes = {g: vamuretu.Node(header, g, seed_of(g), four.order if g == 0 else None) for g in four.loyal()}
     for _ in range(header.rounds):
@@ -81,12 +81,13 @@ def drive(four: Four) -> Tuple[vamuretu.Header, Dict[int, bytes], Dict[int, int]
                 nodes[receiver].hear(sender, node.send(receiver))
         for node in nodes.values():
             node.end_round()
-    logs, orders = {}, {}
+    logs, orders, receipts = {}, {}, []
     for general, node in nodes.items():
         with node:
             node.finish()
             logs[general], orders[general] = node.log(), node.order()
-    return header, logs, orders
+            receipts.append(node.receipt())
+    return header, logs, orders, receipts
 
 
 def exhibits_of(data: bytes) -> Tuple[bytes, Dict[int, bytes]]:

@@ -199,6 +199,32 @@ class Jobs(unittest.TestCase):
         self.assertEqual((found.accused, found.kind, found.holds, found.header.slot), (0, 5, True, 0))
         self.assertEqual([it.run_id for it in verdict.runs], [found.header.run_id, found.other.run_id])
 
+    def test_receipts(self):
+        bundle = (EXAMPLES / "split.bundle").read_bytes()
+        own, = vamuretu.run_ids(bundle)
+        every = [vamuretu.receipt(general, bundle, run=own) for general in range(3)]
+        self.assertEqual([it.decode("latin-1") for it in every],
+                         [told(["receipt", "--general", str(general)], bundle) for general in range(3)])
+        bent = every[1][:-1] + bytes([every[1][-1] ^ 1])
+        for given in (b"".join(every), every[0], bent + every[2], every[0][:-1], b"", bundle):
+            got = ended(vamuretu.receipts, given)
+            self.assertEqual(str(got), told(["receipts"], given))
+            self.assertEqual(ended(vamuretu.receipts_json, given), told(["receipts", "--json"], given))
+            found = ended(lambda it: vamuretu.accuse(0, it, receipts=True), given)
+            self.assertEqual(found or "", told(["accuse", "--receipts", "--general", "0"], given))
+        whole = vamuretu.receipts(b"".join(every), run=own)
+        self.assertEqual((whole.shown, whole.order, whole.is_no, whole.convicted), ((0,), 0, False, ()))
+        self.assertEqual((whole.run_id, whole.generals, whole.traitors), (own, 3, 1))
+        self.assertEqual([it.order for it in whole.receipts], [1, 0, 0])
+        self.assertFalse(vamuretu.receipts(bent).receipts[0].holds)
+        for call in (vamuretu.receipts, vamuretu.receipts_json):
+            self.assertRaises(vamuretu.OtherRun, call, every[0], run="0" * 64)
+        self.assertRaises(vamuretu.OtherRun, vamuretu.receipt, 0, bundle, run="0" * 64)
+        self.assertRaises(vamuretu.OtherRun, vamuretu.accuse, 0, every[0], runs=["0" * 64], receipts=True)
+        for call, given in ((vamuretu.receipt, bundle), (lambda *of: vamuretu.accuse(*of, receipts=True), every[0])):
+            self.assertRaises(vamuretu.Nobody, call, 3, given)
+            self.assertRaises(vamuretu.Misuse, call, 16, given)
+
     def test_misuse(self):
         for general in (-1, 16, 1 << 32, (1 << 32) + 3):
             with self.subTest(general), self.assertRaises(vamuretu.Misuse):

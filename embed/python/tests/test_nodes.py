@@ -9,7 +9,7 @@ import unittest
 import warnings
 
 import vamuretu
-from vamuretu import EqualRoots, FrameHead, InputFault, Keys, Misuse, Node, NodeFault, NoWalk
+from vamuretu import EqualRoots, FrameHead, InputFault, Keys, Misuse, Node, NodeFault, NoWalk, OtherRun
 
 from .support import ALL, RING, answer, drive, exhibits_of, needs, seed_of
 
@@ -26,7 +26,7 @@ def fault_of(call, *words, **named):
 @needs("sm_node")
 class Runs(unittest.TestCase):
     def check(self, four):
-        header, logs, orders = drive(four)
+        header, logs, orders, receipts = drive(four)
         status, wrote, _ = answer(("run",), four.scenario())
         front, exhibits = exhibits_of(wrote)
         self.assertEqual((status, logs), (0, {general: exhibits[general] for general in four.loyal()}))
@@ -34,6 +34,9 @@ class Runs(unittest.TestCase):
         self.assertEqual(exhibits_of(made), (front, logs))
         decided = json.loads(answer(("decide", "--json"), four.scenario())[1])["decisions"]
         self.assertEqual(orders, {it["general"]: it["order"] for it in decided})
+        told = [answer(("receipt", "--general", str(general)), made) for general in four.loyal()]
+        self.assertEqual(told, [(0, it, b"") for it in receipts])
+        self.assertEqual(vamuretu.shown(header.run_id, b"".join(receipts)), four.order)
         verdict = json.loads(answer(("audit", "--json"), made)[1])
         self.assertEqual((verdict["run"], verdict["verdict"]), (header.run_id, "agreed"))
 
@@ -87,6 +90,38 @@ class Headers(unittest.TestCase):
 
 
 @needs("sm_node")
+class Receipts(unittest.TestCase):
+    """What receipts show of a run in which one of four nodes may be faulty."""
+
+    @classmethod
+    def setUpClass(cls):
+        cls.header, _, _, cls.receipts = drive(ALL)
+
+    def test_shown(self):
+        one, two, *_ = self.receipts
+        bent = one[:-1] + bytes([one[-1] ^ 1])
+        for run in (self.header.run_id, bytes.fromhex(self.header.run_id)):
+            self.assertEqual(vamuretu.shown(run, bytearray(two + one)), ALL.order)
+            for given in (one, one + one, bent + two):
+                self.assertIsNone(vamuretu.shown(run, given))
+        with self.assertRaises(OtherRun) as caught:
+            vamuretu.shown(bytes(32), one + two)
+        self.assertEqual(caught.exception.line, "fault R1")
+        for run in ("", "0" * 63, bytes(31), "x" * 64):
+            self.assertRaises(Misuse, vamuretu.shown, run, one)
+
+    def test_faults(self):
+        one, other = self.receipts[0], bytearray(self.receipts[1])
+        other[9] ^= 1
+        cases = [(b"", "Q1"), (one[:-1], "Q1"), (bytes(9), "Q2"), (b"SMR2" + one[4:], "H10"), (one + other, "Q5")]
+        behind = 4 + len(self.header.data)
+        cases += [(one[:behind] + b"\4" + one[behind + 1 :], "Q4"), (one[:5] + b"\1" + one[6:], "H1")]
+        for given, name in cases:
+            with self.subTest(name):
+                self.assertEqual(fault_of(vamuretu.shown, self.header.run_id, given), NodeFault[name])
+
+
+@needs("sm_node")
 class Calls(unittest.TestCase):
     def setUp(self):
         self.header = ALL.header()
@@ -109,7 +144,7 @@ class Calls(unittest.TestCase):
 
     def test_order_of_calls(self):
         node = self.nodes[0]
-        for call in (node.end_round, node.finish, node.log, node.order, lambda: node.send(1)):
+        for call in (node.end_round, node.finish, node.log, node.receipt, node.order, lambda: node.send(1)):
             self.assertRaises(Misuse, call)
         self.assertEqual(fault_of(node.hear, 1, b""), NodeFault.F1)
         node.begin_round()

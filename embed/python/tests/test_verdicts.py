@@ -3,8 +3,9 @@
 import json
 import unittest
 
-from vamuretu import AcrossConviction, CampaignVerdict, Conviction, Decision, Finding, Kind, RunDecision, Status
-from vamuretu._verdicts import decisions_of, judgement_of
+from vamuretu import AcrossConviction, CampaignVerdict, Conviction, Decision, Finding, Kind, Receipt, Receipts
+from vamuretu import RunDecision, Status
+from vamuretu._verdicts import decisions_of, judgement_of, receipts_of
 
 from .support import EXAMPLES, answer
 
@@ -67,6 +68,26 @@ class Verdicts(unittest.TestCase):
         self.assertEqual((made.convictions, made.is_no), ((AcrossConviction(0, (0, 1)),), True))
         behind = "convicted 0 by K1 across 0 1\nend campaign\n"
         self.assertEqual(str(made), f"campaign 2\n{made.runs[0]}{made.runs[1]}{behind}")
+
+
+class ReceiptsOfRuns(unittest.TestCase):
+    def test_examples(self):
+        bundle = (EXAMPLES / "split.bundle").read_bytes()
+        every = [answer(("receipt", "--general", str(general)), bundle)[1] for general in range(3)]
+        for given in (b"".join(every), every[0], every[0][:-1] + b"x"):
+            made = receipts_of(json.loads(answer(("receipts", "--json"), given)[1]))
+            status, wrote, _ = answer(("receipts",), given)
+            self.assertEqual((str(made), made.is_no), (wrote.decode(), status == 1))
+
+    def test_parts(self):
+        said = {"decides": 1, "entries": 6, "general": 2, "holds": True, "set": [0, 1]}
+        of = {"convicted": [3], "network": NETWORK, "receipts": [said, {**said, "holds": False}], "run": "0a" * 32, "shown": [0, 1]}
+        made, told = receipts_of(of), Receipt(2, 6, frozenset({0, 1}), 1, True)
+        self.assertEqual(made, Receipts("0a" * 32, (0, 1), (told, Receipt(2, 6, frozenset({0, 1}), 1, False)), (3,), 4, 1))
+        self.assertEqual((made.order, made.is_no, receipts_of({**of, "shown": [1]}).order), (None, True, 1))
+        lines = [f"run {'0a' * 32}", "shown 0,1", "general 2 set 0,1 decides 1", "general 2 fails", "general 3 convicted", "end\n"]
+        self.assertEqual(str(made), "\n".join(lines))
+        self.assertEqual(str(receipts_of({**of, "shown": []})).split("\n")[1], "shown -")
 
 
 class Decisions(unittest.TestCase):

@@ -7,9 +7,9 @@ says where they are looked for, and docs/EMBED.md of the sources what each call 
 from ._faults import EqualRoots, InputFault, LibraryMissing, Misuse, Nobody, NodeFault, NoWalk, OtherRun
 from ._headers import Header, header, read_header
 from ._jobs import Evidence, accuse, audit, audit_json, decide, decide_json, draw, evidence, evidence_json, explain
-from ._jobs import plan, refute, run_ids, show, show_json, words
+from ._jobs import plan, receipt, receipts, receipts_json, refute, run_ids, show, show_json, words
 from ._libraries import use_libraries, version
-from ._nodes import FrameHead, Keys, Node, bundle, frame_head, root
+from ._nodes import FrameHead, Keys, Node, bundle, frame_head, root, shown
 from ._verdicts import (
     AcrossConviction,
     CampaignVerdict,
@@ -18,6 +18,8 @@ from ._verdicts import (
     Finding,
     Judgement,
     Kind,
+    Receipt,
+    Receipts,
     RunDecision,
     Status,
     Verdict,
@@ -44,6 +46,8 @@ __all__ = [
     "Node",
     "NodeFault",
     "OtherRun",
+    "Receipt",
+    "Receipts",
     "RunDecision",
     "Status",
     "Verdict",
@@ -61,11 +65,15 @@ __all__ = [
     "header",
     "plan",
     "read_header",
+    "receipt",
+    "receipts",
+    "receipts_json",
     "refute",
     "root",
     "run_ids",
     "show",
     "show_json",
+    "shown",
     "use_libraries",
     "version",
     "words",

@@ -7,7 +7,7 @@ from typing import Optional, Tuple
 
 
 class NodeFault(enum.IntEnum):
-    """The numbers of faults of sm_node.h. docs/FORMATS.md says what H1 to H11, F1 to F8 and B1 to B9 are."""
+    """The numbers of faults of sm_node.h. docs/FORMATS.md says what H1 to H11, F1 to F8, B1 to B9 and Q1 to Q5 are."""
 
     H1 = 1
     H2 = 2
@@ -55,6 +55,11 @@ class NodeFault(enum.IntEnum):
     B9 = 49
     LONG_LOG = 50
     """A log has 2^32 bytes or more."""
+    Q1 = 61
+    Q2 = 62
+    Q3 = 63
+    Q4 = 64
+    Q5 = 65
 
     @property
     def text(self) -> str:
@@ -100,13 +105,18 @@ _TEXTS = {
     NodeFault.B8: "bytes are left over behind the bundle",
     NodeFault.B9: "the logs are not in the order of their generals",
     NodeFault.LONG_LOG: "a log has 2^32 bytes or more",
+    NodeFault.Q1: "the bytes end before the receipt does",
+    NodeFault.Q2: "the first four bytes of a receipt are neither SMR1 nor SMR2",
+    NodeFault.Q3: "the header of a receipt breaks a rule",
+    NodeFault.Q4: "the general, the order or a member of the set is none of the network's",
+    NodeFault.Q5: "a receipt has another header than the first",
 }
 
 
 class InputFault(ValueError):
     """What was handed in has a fault, and nothing was changed.
 
-    `line` is what sm_tool prints of the fault, as `fault B3 H6`. A call on nodes, headers or bundles has a `number`
+    `line` is what sm_tool prints of the fault, as `fault B3 H6`. A call on nodes, headers, bundles or shown() has a `number`
     too, whose `text` is the fault in words, and the line is made of its name. That of run_ids() is none of sm_tool's:
     show() tells the fault.
     """
@@ -154,7 +164,7 @@ class Misuse(RuntimeError):
 
 
 class Nobody(Misuse):
-    """The node (general) that is to be accused is none of the run's."""
+    """The node (general) that is to be accused, or whose receipt is asked for, is none of the run's."""
 
 
 class LibraryMissing(OSError):

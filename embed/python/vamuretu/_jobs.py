@@ -5,21 +5,19 @@ from __future__ import annotations
 import ctypes
 import json
 from dataclasses import dataclass
-from typing import Any, Iterable, Optional, Tuple, Union
+from typing import Any, Iterable, Optional, Tuple
 
 from ._faults import InputFault, Misuse, Nobody, OtherRun
 from ._headers import Header, after_mark
-from ._libraries import JOBS, Bytes, Options, as_bytes, exactly, held, library, number
-from ._verdicts import Judgement, RunDecision, decisions_of, judgement_of
+from ._libraries import JOBS, RUN_ID_BYTES, Bytes, Options, RunId, as_bytes, held, library, number, run_id_of
+from ._verdicts import Judgement, Receipts, RunDecision, decisions_of, judgement_of, receipts_of
 
 YES, NO, MISUSE, FAULT, MEMORY = range(5)
 NOBODY, OTHER_RUN = 6, 7
 # The forms of an answer.
 TEXT, JSON = 0, 1
-RUN_ID_BYTES, RUNS_MOST = 32, 4
+RUNS_MOST = 4
 MARK_BYTES = 4
-# A run id in bytes, or in 64 hexadecimal digits.
-RunId = Union[str, Bytes]
 # The kind of evidence that has the header of another run.
 ACROSS = 5
 
@@ -61,25 +59,19 @@ def _made(job: str, given: Bytes, *behind: Any, general: Tuple[int, ...] = ()) -
     return _checked(job, *held(JOBS, lambda answer: int(function(*general, data, len(data), *behind, answer))))
 
 
-def _run_id(given: RunId) -> bytes:
-    """The bytes of a run id."""
-    try:
-        return exactly(RUN_ID_BYTES, bytes.fromhex(given) if isinstance(given, str) else given, "a run id")
-    except ValueError:
-        raise Misuse(f"{given!r} is no run id") from None
-
-
-def _options(runs: Optional[Iterable[RunId]] = None, form: int = TEXT) -> Any:
-    """The options with the run ids that are expected, of None none, so any run is taken, and with a form."""
+def _options(runs: Optional[Iterable[RunId]] = None, form: int = TEXT, receipts: bool = False) -> Any:
+    """The options with the run ids that are expected, of None none, so any run is taken, with a form, and whether the
+    input is receipts.
+    """
     if runs is None:
-        return ctypes.byref(Options(b"", 0, 0, form))
+        return ctypes.byref(Options(b"", 0, 0, form, receipts))
     # A text is no list of run ids. The library takes any run for an empty list, which a caller may have by mistake.
     if isinstance(runs, (str, bytes, bytearray, memoryview)):
         raise Misuse("runs is a list of run ids, and not one of them")
-    ids = [_run_id(it) for it in runs]
+    ids = [run_id_of(it) for it in runs]
     if not 1 <= len(ids) <= RUNS_MOST:
         raise Misuse(f"{len(ids)} runs are expected, and not 1 to {RUNS_MOST}: for any run leave runs out")
-    return ctypes.byref(Options(b"".join(ids), len(ids), 0, form))
+    return ctypes.byref(Options(b"".join(ids), len(ids), 0, form, receipts))
 
 
 def _of_one(run: Optional[RunId]) -> Optional[Tuple[RunId]]:
@@ -106,14 +98,40 @@ def draw(given: Bytes, *, runs: Optional[Iterable[RunId]] = None) -> str:
     return _made("draw", given, _options(runs))[1].decode("ascii")
 
 
-def accuse(general: int, given: Bytes, *, runs: Optional[Iterable[RunId]] = None) -> Optional[bytes]:
-    """The evidence against a node (general) that a bundle or a campaign holds, or None.
+def accuse(
+    general: int, given: Bytes, *, runs: Optional[Iterable[RunId]] = None, receipts: bool = False
+) -> Optional[bytes]:
+    """The evidence against a node (general) that a bundle or a campaign holds, or None. With `receipts`, receipts are
+    given: the evidence is two heads that the node signed.
 
     Misuse for a node above 15, and Nobody, which is a Misuse, for another that is none of the run's. `runs` is as of
     `audit`, and is compared first.
     """
-    is_no, data = _made("accuse", given, _options(runs), general=(number(general, 16, "general"),))
+    asked = _options(runs, receipts=receipts)
+    is_no, data = _made("accuse", given, asked, general=(number(general, 16, "general"),))
     return None if is_no else data
+
+
+def receipt(general: int, given: Bytes, *, run: Optional[RunId] = None) -> Optional[bytes]:
+    """The receipt of the log of a node (general) in a bundle, or None if no log of it has a receipt that holds.
+
+    Misuse and Nobody are as of `accuse`. With `run`, OtherRun is raised if the bundle is of another run.
+    """
+    is_no, data = _made("receipt", given, _options(_of_one(run)), general=(number(general, 16, "general"),))
+    return None if is_no else data
+
+
+def receipts(given: Bytes, *, run: Optional[RunId] = None) -> Receipts:
+    """Which values (orders) receipts show, one behind another. Its str() is the text that `sm_tool receipts` writes.
+    With `run`, OtherRun is raised if they are of another run. Without it the receipts name the run and its keys
+    themselves, and anybody can write such receipts.
+    """
+    return receipts_of(json.loads(receipts_json(given, run=run)))
+
+
+def receipts_json(given: Bytes, *, run: Optional[RunId] = None) -> str:
+    """The same as one line with a JSON object, as `sm_tool receipts --json` writes it."""
+    return _made("receipts", given, _options(_of_one(run), JSON))[1].decode("ascii")
 
 
 def refute(given: Bytes, log: Bytes) -> Optional[str]:

@@ -19,13 +19,17 @@ SHORT = 5
 VERSION_NUMBER = 2000
 
 Bytes = Union[bytes, bytearray, memoryview]
+# A run id in bytes, or in 64 hexadecimal digits.
+RunId = Union[str, Bytes]
+RUN_ID_BYTES = 32
 Call = Callable[[Any, int, Any], int]
 
 
 class Options(ctypes.Structure):
     """`sm_options`."""
 
-    _fields_ = [("runs", c_char_p), ("run_count", c_size_t), ("strict", c_uint32), ("form", c_uint32)]
+    _fields_ = [("runs", c_char_p), ("run_count", c_size_t)]
+    _fields_ += [(name, c_uint32) for name in ("strict", "form", "receipts")]
 
 
 class Fact(ctypes.Structure):
@@ -75,6 +79,8 @@ _ENDS: Dict[str, Dict[str, List[Any]]] = {
         "sm_draw": _READ + _ASKED,
         "sm_accuse": [c_uint32] + _READ + _ASKED,
         "sm_evidence": _READ + _ASKED,
+        "sm_receipt": [c_uint32] + _READ + _ASKED,
+        "sm_receipts": _READ + _ASKED,
         "sm_decide": _READ + _ASKED,
         "sm_show": _READ + _ASKED,
         "sm_refute": _READ + _READ + _ANSWER,
@@ -97,6 +103,7 @@ _ENDS: Dict[str, Dict[str, List[Any]]] = {
         "sm_node_end_round": _NODE,
         "sm_node_finish": _NODE,
         "sm_node_log": _NODE + _WRITTEN,
+        "sm_node_receipt": _NODE + _WRITTEN,
         "sm_node_order": _NODE + [POINTER(c_uint32)],
         "sm_node_free": _NODE,
         "sm_node_bundle": _READ
@@ -105,6 +112,7 @@ _ENDS: Dict[str, Dict[str, List[Any]]] = {
         + _WRITTEN
         + _FAULT
         + [POINTER(Pair)],
+        "sm_node_shown": [c_char_p] + _READ + [POINTER(c_uint32)] + _FAULT,
         "sm_node_header_numbers": _READ + [POINTER(Numbers)] + _FAULT,
         "sm_node_rounds": _READ + [POINTER(c_uint32)] + _FAULT,
         "sm_node_neighbours": _READ + [c_uint32, POINTER(c_uint32)] + _FAULT,
@@ -186,6 +194,14 @@ def exactly(length: int, given: Bytes, name: str) -> bytes:
     if len(data) != length:
         raise Misuse(f"{name} of {len(data)} bytes, and not {length}")
     return data
+
+
+def run_id_of(given: RunId) -> bytes:
+    """The bytes of a run id."""
+    try:
+        return exactly(RUN_ID_BYTES, bytes.fromhex(given) if isinstance(given, str) else given, "a run id")
+    except ValueError:
+        raise Misuse(f"{given!r} is no run id") from None
 
 
 def number(value: int, below: int, name: str) -> int:

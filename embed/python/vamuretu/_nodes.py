@@ -10,16 +10,19 @@ from dataclasses import dataclass
 from types import TracebackType
 from typing import Iterable, List, NoReturn, Optional, Tuple, Type, TypeVar, Union
 
-from ._faults import Misuse
+from ._faults import Misuse, OtherRun
 from ._headers import ROOT_BYTES, Header, made, must
-from ._libraries import NODES, Bytes, LogOf, as_bytes, exactly, library, number, written
+from ._libraries import NODES, Bytes, LogOf, RunId, as_bytes, exactly, library, number, run_id_of, written
 from ._libraries import FrameHead as Told
 
 # In place of an order: the node has none.
 NO_ORDER = 255
+# What shown() has besides: no order is shown, or several are; the receipts are of another run.
+NO, OTHER_RUN = 1, 7
 GENERALS, ORDERS = 16, 16
 MOST_WALKS, WALK_BYTES, LOG_FRONT = 120, 17, 5
-FIRST_ROOM = 1 << 12
+# Most frames without a chain, and small logs, fit into the first room, and each receipt into the second.
+FIRST_ROOM, RECEIPT_ROOM = 1 << 12, 17_500
 
 
 _Own = TypeVar("_Own", bound="_Held")
@@ -203,6 +206,29 @@ class Node(_Held):
         status, log = written(lambda *ends: self._call("sm_node_log", *ends), FIRST_ROOM)
         must(status, "sm_node_log")
         return log
+
+    def receipt(self) -> bytes:
+        """The receipt of a node that has ended, which shows its decision without its log."""
+        status, receipt = written(lambda *ends: self._call("sm_node_receipt", *ends), RECEIPT_ROOM)
+        must(status, "sm_node_receipt")
+        return receipt
+
+
+def shown(run: RunId, receipts: Bytes) -> Optional[int]:
+    """The value (order) that receipts of a run show, which stand one behind another: more than m nodes have a receipt
+    there that says the value and holds. None if they show no value, or two.
+
+    OtherRun for receipts of another run. InputFault has Q1, Q2, Q4 or Q5, or the fault of a header.
+    """
+    data, order, told = as_bytes(receipts), ctypes.c_uint32(NO_ORDER), ctypes.c_uint32(0)
+    words = run_id_of(run), data, len(data), ctypes.byref(order), ctypes.byref(told)
+    status = library(NODES).sm_node_shown(*words)
+    if status == OTHER_RUN:
+        raise OtherRun("fault R1")
+    if status == NO:
+        return None
+    must(status, "sm_node_shown", told)
+    return order.value
 
 
 @dataclass(frozen=True)

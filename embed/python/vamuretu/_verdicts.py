@@ -60,6 +60,52 @@ class RunDecision:
 
 
 @dataclass(frozen=True)
+class Receipt:
+    """What a receipt says of a node (general): how many entries its log has, the values (orders) that it accepted, and
+    the value that it decided. `holds` says whether the node signed this.
+    """
+
+    general: int
+    entries: int
+    accepted: FrozenSet[int]
+    order: int
+    holds: bool
+
+    def __str__(self) -> str:
+        if not self.holds:
+            return f"general {self.general} fails"
+        return str(RunDecision(self.general, self.accepted, self.order))
+
+
+@dataclass(frozen=True)
+class Receipts:
+    """What receipts of a run show. `shown` are the values (orders) that more than m nodes show, `traitors` is m, and
+    `generals` is n. `convicted` are the nodes that have two receipts which hold and have different heads.
+    """
+
+    run_id: str
+    shown: Tuple[int, ...]
+    receipts: Tuple[Receipt, ...]
+    convicted: Tuple[int, ...]
+    generals: int
+    traitors: int
+
+    @property
+    def order(self) -> Optional[int]:
+        """The value that is shown, or None if none is or several are."""
+        return self.shown[0] if len(self.shown) == 1 else None
+
+    @property
+    def is_no(self) -> bool:
+        return self.order is None
+
+    def __str__(self) -> str:
+        shown = ",".join(map(str, self.shown)) or "-"
+        convicted = (f"general {general} convicted" for general in self.convicted)
+        return _joined([f"run {self.run_id}", f"shown {shown}", *map(str, self.receipts), *convicted, "end"])
+
+
+@dataclass(frozen=True)
 class Finding:
     """A fact that speaks against a bundle, N1 to N11. `generals` are the nodes of the line: one of N1 to N7, a sender
     and a receiver of N8 and N9, a pair of N10, none of N11. N5 and N7 have an entry, N3 has the fault of a log, as
@@ -197,6 +243,14 @@ def judgement_of(of: Value) -> Judgement:
         return _verdict(of)
     across = (AcrossConviction(it["general"], (it["first"], it["second"])) for it in of["across"])
     return CampaignVerdict(tuple(map(_verdict, of["runs"])), tuple(across))
+
+
+def receipts_of(of: Value) -> Receipts:
+    """What receipts show, that an object has."""
+    told = (Receipt(it["general"], it["entries"], frozenset(it["set"]), it["decides"], it["holds"]) for it in of["receipts"])
+    network = of["network"]
+    shown, convicted = tuple(of["shown"]), tuple(of["convicted"])
+    return Receipts(of["run"], shown, tuple(told), convicted, network["generals"], network["traitors"])
 
 
 def decisions_of(of: Value) -> Tuple[RunDecision, ...]:

@@ -1,17 +1,31 @@
 //! What `sm_tool` writes for the bytes on standard input, with its status.
 //!
-//!     judge audit|evidence|decide|show [--json]
+//!     judge audit|evidence|receipts|decide|show [--json]
 //!     judge draw|plan
-//!     judge accuse GENERAL
+//!     judge accuse|receipt GENERAL
 use std::io::{Error, Read, Write};
 use std::process::ExitCode;
 use vamuretu::{
-    accuse, audit, audit_json, decide, decide_json, draw, evidence, evidence_json, plan, show, show_json, Answer, Fault,
+    accuse, audit, audit_json, decide, decide_json, draw, evidence, evidence_json, plan, receipt, receipts,
 };
+use vamuretu::{receipts_json, show, show_json, Answer, Fault};
 
 /// The status and the text of an answer.
 fn said(answer: Answer) -> (u8, Vec<u8>) {
     (u8::from(answer.is_no()), answer.text().into())
+}
+
+/// The status and the bytes of a job on a general. If there are none, that is a no, and so is a general that is not there.
+fn made(bytes: Result<Option<Vec<u8>>, Fault>) -> Result<(u8, Vec<u8>), Fault> {
+    match bytes {
+        Err(Fault::Nobody) => Ok((1, vec![])),
+        found => Ok(found?.map_or((1, vec![]), |bytes| (0, bytes))),
+    }
+}
+
+/// The status of receipts: a no unless they show one value.
+fn status_of(input: &[u8]) -> Result<u8, Fault> {
+    Ok(u8::from(receipts(None, input)?.order().is_none()))
 }
 
 /// The status and the text of a job.
@@ -28,10 +42,10 @@ fn answer(words: &[&str], input: &[u8]) -> Result<(u8, Vec<u8>), Fault> {
         ["decide"] => (0, decide(input)?.into_bytes()),
         ["evidence"] if evidence(input)? => (0, b"evidence holds\n".to_vec()),
         ["evidence"] => (1, b"evidence fails\n".to_vec()),
-        ["accuse", general] => match accuse(general.parse().map_err(|_| Fault::Misuse)?, input) {
-            Err(Fault::Nobody) => (1, vec![]),
-            found => found?.map_or((1, vec![]), |bytes| (0, bytes)),
-        },
+        ["receipts"] => (status_of(input)?, receipts(None, input)?.to_string().into_bytes()),
+        ["receipts", "--json"] => (status_of(input)?, receipts_json(None, input)?.into_bytes()),
+        ["accuse", general] => made(accuse(general.parse().map_err(|_| Fault::Misuse)?, input))?,
+        ["receipt", general] => made(receipt(None, general.parse().map_err(|_| Fault::Misuse)?, input))?,
         _ => return Err(Fault::Misuse),
     })
 }

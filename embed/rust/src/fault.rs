@@ -11,9 +11,9 @@ pub enum Fault {
     Input(String),
     /// The input of a job is of another run than the one that is expected.
     OtherRun,
-    /// The node (general) of [`accuse`](crate::accuse) is none of the run's.
+    /// The node (general) of [`accuse`](crate::accuse) or [`receipt`](crate::receipt) is none of the run's.
     Nobody,
-    /// What was handed to a call on nodes, headers or bundles has a fault.
+    /// What was handed to a call on nodes, headers or bundles, or to [`shown`](crate::shown), has a fault.
     Node(NodeFault),
     /// Two nodes of a header have the same root, the lesser one first. No lesser pair has.
     EqualRoots(u32, u32),
@@ -27,8 +27,8 @@ pub enum Fault {
     Memory,
 }
 
-/// The faults of `sm_node.h`. `docs/FORMATS.md` says what H1 to H11, F1 to F8 and B1 to B9 are, and so does
-/// [`explain`](crate::explain) of such a name.
+/// The faults of `sm_node.h`. `docs/FORMATS.md` says what H1 to H11, F1 to F8, B1 to B9 and Q1 to Q5 are, and so
+/// does [`explain`](crate::explain) of such a name.
 #[allow(missing_docs)]
 #[derive(Debug, Clone, Copy, PartialEq, Eq, Hash)]
 pub enum NodeFault {
@@ -78,18 +78,24 @@ pub enum NodeFault {
     B9,
     /// A log has 2^32 bytes or more.
     LongLog,
+    Q1,
+    Q2,
+    Q3,
+    Q4,
+    Q5,
 }
 
 use NodeFault::*;
 
 /// The faults of each row of numbers, with the first number.
-const NUMBERED: [(u32, &[NodeFault]); 6] = [
+const NUMBERED: [(u32, &[NodeFault]); 7] = [
     (1, &[H1, H2, H3, H4, H5, H6, H7, H8, H9, H10, H11, LeftOver, NoGeneral, OtherRoot, EqualRoots]),
     (16, &[OtherVersion, UsedSlot]),
     (21, &[F1, F2, F3, F4, F5, F6, F7, F8]),
     (31, &[U1, U2]),
     (41, &[B1, B2, B3, B4, B5, B6, B7, B8, B9]),
     (50, &[LongLog]),
+    (61, &[Q1, Q2, Q3, Q4, Q5]),
 ];
 
 impl NodeFault {
@@ -141,6 +147,7 @@ impl Fault {
             raw::OK => Ok(()),
             raw::FAULT => Err(NodeFault::of_number(number).map_or(Fault::Misuse, Fault::Node)),
             raw::MEMORY => Err(Fault::Memory),
+            raw::OTHER => Err(Fault::OtherRun),
             _ => Err(Fault::Misuse),
         }
     }
@@ -164,12 +171,24 @@ mod tests {
             let number = name.rsplit(' ').next().expect("a number").parse().expect("a number");
             assert!(header.contains(name) && NodeFault::of_number(number) == Some(fault));
         }
-        let told =
-            [(1, H1), (11, H11), (21, F1), (28, F8), (31, U1), (32, U2), (44, B4), (47, B7), (49, B9), (50, LongLog)];
+        let told = [
+            (1, H1),
+            (11, H11),
+            (21, F1),
+            (28, F8),
+            (31, U1),
+            (32, U2),
+            (44, B4),
+            (47, B7),
+            (49, B9),
+            (50, LongLog),
+            (61, Q1),
+            (65, Q5),
+        ];
         for (number, fault) in told {
             assert_eq!(NodeFault::of_number(number), Some(fault));
         }
-        for number in [0, 18, 20, 29, 33, 40, 51, u32::MAX] {
+        for number in [0, 18, 20, 29, 33, 40, 51, 60, 66, u32::MAX] {
             assert_eq!(NodeFault::of_number(number), None);
         }
     }
@@ -180,6 +199,7 @@ mod tests {
         let names = ["SM_OK = 0", "SM_MISUSE = 2", "SM_FAULT = 3", "SM_MEMORY = 4", "SM_LENGTH = 5"];
         assert!(names.iter().all(|name| header.contains(name)));
         assert_eq!((Fault::of_node(0, 0), Fault::of_node(2, 0)), (Ok(()), Err(Fault::Misuse)));
+        assert_eq!(Fault::of_node(7, 0), Err(Fault::OtherRun));
         assert_eq!((Fault::of_node(3, 6), Fault::of_node(4, 0)), (Err(Fault::Node(H6)), Err(Fault::Memory)));
         assert_eq!(Fault::Node(H6).to_string(), "fault H6");
         for fault in [LeftOver, NoGeneral, OtherRoot, EqualRoots, OtherVersion, UsedSlot, U1, U2, LongLog] {

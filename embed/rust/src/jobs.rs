@@ -1,7 +1,7 @@
 //! What `sm_tool` does over bytes.
 
 use crate::raw::{self, Held, SmAnswer, SmOptions};
-use crate::verdicts::{Judgement, RunDecision};
+use crate::verdicts::{Judgement, Receipts, RunDecision};
 use crate::Fault;
 
 /// The forms of an answer.
@@ -43,8 +43,9 @@ fn text_of(bytes: Vec<u8>) -> String {
 /// The id of a run.
 pub type RunId = [u8; 32];
 
-/// A job that takes an input and options, and one that takes an input.
+/// A job that takes an input and options, one that takes a general before them, and one that takes an input.
 type Asking = unsafe extern "C" fn(*const u8, usize, *const SmOptions, *mut SmAnswer) -> u32;
+type Making = unsafe extern "C" fn(u32, *const u8, usize, *const SmOptions, *mut SmAnswer) -> u32;
 type Telling = unsafe extern "C" fn(*const u8, usize, *mut SmAnswer) -> u32;
 
 /// The end of a job: whether it is a no, and what is held.
@@ -71,13 +72,26 @@ fn in_words((is_no, mut held): (bool, Held)) -> Answer {
 
 /// The options of a call. The ids outlive them.
 fn options(runs: &[RunId], strict: bool, form: u32) -> SmOptions {
-    SmOptions { runs: runs.as_ptr().cast(), run_count: runs.len(), strict: u32::from(strict), form }
+    SmOptions { runs: runs.as_ptr().cast(), run_count: runs.len(), strict: u32::from(strict), form, receipts: 0 }
 }
 
 /// Does a job on an input, by options.
 fn asked(job: Asking, options: &SmOptions, input: &[u8]) -> Result<(bool, Held), Fault> {
     // SAFETY: the pointers are of pieces of memory of these lengths that do not overlap, and nobody else has the answer.
     ended(Held::by(|answer| unsafe { job(input.as_ptr(), input.len(), options, answer) }))
+}
+
+/// The bytes that a job on a general and an input makes, if it makes any.
+fn bytes_of(job: Making, general: u32, options: &SmOptions, input: &[u8]) -> Result<Option<Vec<u8>>, Fault> {
+    // SAFETY: as in `asked`.
+    let call = |answer| unsafe { job(general, input.as_ptr(), input.len(), options, answer) };
+    let (is_no, mut held) = ended(Held::by(call))?;
+    Ok((!is_no).then(|| held.text()))
+}
+
+/// The list of the run id that is expected, if there is one.
+fn one_of(run: Option<&RunId>) -> &[RunId] {
+    run.map_or(&[], std::slice::from_ref)
 }
 
 /// Does a job on an input.
@@ -145,15 +159,13 @@ pub fn evidence(input: &[u8]) -> Result<bool, Fault> {
 /// Whether evidence holds, which is of the run with this id; of any if there is none. [`Fault::OtherRun`] if its header
 /// is that of another run.
 pub fn evidence_of(run: Option<&RunId>, input: &[u8]) -> Result<bool, Fault> {
-    let runs = run.map_or(&[][..], std::slice::from_ref);
-    asked(raw::sm_evidence, &options(runs, false, TEXT), input).map(|(is_no, _)| !is_no)
+    asked(raw::sm_evidence, &options(one_of(run), false, TEXT), input).map(|(is_no, _)| !is_no)
 }
 
 /// What evidence says, and whether it holds, as one line with a JSON object, as `sm_tool evidence --json` writes it.
 /// `run` is as of [`evidence_of`].
 pub fn evidence_json(run: Option<&RunId>, input: &[u8]) -> Result<String, Fault> {
-    let runs = run.map_or(&[][..], std::slice::from_ref);
-    asked(raw::sm_evidence, &options(runs, false, JSON), input).map(|(_, mut held)| text_of(held.text()))
+    asked(raw::sm_evidence, &options(one_of(run), false, JSON), input).map(|(_, mut held)| text_of(held.text()))
 }
 
 /// The evidence against a node (general) that a bundle or a campaign holds, if there is any. [`Fault::Misuse`] for a
@@ -165,11 +177,33 @@ pub fn accuse(general: u32, input: &[u8]) -> Result<Option<Vec<u8>>, Fault> {
 /// The evidence, as [`accuse`], of the runs with these ids, which are compared first. Faults are those of [`audit_of`]
 /// too.
 pub fn accuse_of(runs: &[RunId], general: u32, input: &[u8]) -> Result<Option<Vec<u8>>, Fault> {
-    let given = options(runs, false, TEXT);
-    // SAFETY: as in `asked`.
-    let call = |answer| unsafe { raw::sm_accuse(general, input.as_ptr(), input.len(), &given, answer) };
-    let (is_no, mut held) = ended(Held::by(call))?;
-    Ok((!is_no).then(|| held.text()))
+    bytes_of(raw::sm_accuse, general, &options(runs, false, TEXT), input)
+}
+
+/// The evidence against a node (general) that receipts hold, one behind another: two heads that the node signed. `run` is
+/// as of [`evidence_of`], and the other faults are those of [`accuse`].
+pub fn accuse_receipts(run: Option<&RunId>, general: u32, receipts: &[u8]) -> Result<Option<Vec<u8>>, Fault> {
+    let given = SmOptions { receipts: 1, ..options(one_of(run), false, TEXT) };
+    bytes_of(raw::sm_accuse, general, &given, receipts)
+}
+
+/// The receipt of the log of a node (general) in a bundle, if a log of it has a receipt that holds. `run` is as of
+/// [`evidence_of`], and the other faults are those of [`accuse`].
+pub fn receipt(run: Option<&RunId>, general: u32, bundle: &[u8]) -> Result<Option<Vec<u8>>, Fault> {
+    bytes_of(raw::sm_receipt, general, &options(one_of(run), false, TEXT), bundle)
+}
+
+/// Which values (orders) receipts show, one behind another, in its parts. Its text is that of `sm_tool receipts`. `run` is
+/// as of [`evidence_of`]. Without it the receipts name the run and its keys themselves, and anybody can write such
+/// receipts.
+pub fn receipts(run: Option<&RunId>, input: &[u8]) -> Result<Receipts, Fault> {
+    let (_, mut held) = asked(raw::sm_receipts, &options(one_of(run), false, TEXT), input)?;
+    Receipts::of(&held.facts()).ok_or(Fault::Misuse)
+}
+
+/// The same as one line with a JSON object, as `sm_tool receipts --json` writes it.
+pub fn receipts_json(run: Option<&RunId>, input: &[u8]) -> Result<String, Fault> {
+    asked(raw::sm_receipts, &options(one_of(run), false, JSON), input).map(|(_, mut held)| text_of(held.text()))
 }
 
 /// The ids of the runs that a file is of: one of a header, of a bundle or of evidence, and of a campaign those of its
@@ -335,6 +369,38 @@ mod tests {
         assert!(matches!(&series.verdicts, Verdicts::Campaign(runs, _) if runs.len() == 4));
         let own = run_ids(SPLIT).expect("memory").expect("a bundle");
         assert_eq!((judge(&own, SPLIT), judge(&[[0; 32]], SPLIT)), (Ok(split), Err(Fault::OtherRun)));
+    }
+
+    #[test]
+    fn receipts_of_a_bundle() {
+        let own = run_ids(SPLIT).expect("memory").expect("a bundle");
+        let made = |general| receipt(own.first(), general, SPLIT).expect("a bundle").expect("a receipt");
+        let whole = [made(0), made(1), made(2)].concat();
+        let told = receipts(own.first(), &whole).expect("receipts");
+        assert_eq!((&told.shown[..], told.order(), told.generals, told.traitors), (&[0][..], Some(0), 3, 1));
+        assert_eq!((told.run_id, &told.convicted[..]), (own[0], &[][..]));
+        assert_eq!(
+            told.receipts.iter().map(|it| (it.general, it.order, it.holds)).collect::<Vec<_>>(),
+            [(0, 1, true), (1, 0, true), (2, 0, true)]
+        );
+        let lines =
+            "shown 0\ngeneral 0 set 1 decides 1\ngeneral 1 set 0,1 decides 0\ngeneral 2 set 0,1 decides 0\nend\n";
+        assert_eq!(told.to_string().split_once('\n').expect("lines").1, lines);
+        assert!(receipts_json(None, &whole)
+            .expect("receipts")
+            .starts_with("{\"convicted\":[],\"format\":\"receipts\""));
+        let mut bent = made(1);
+        *bent.last_mut().expect("a byte") ^= 1;
+        let bent = receipts(None, &bent).expect("a receipt");
+        assert_eq!((bent.order(), bent.receipts[0].holds), (None, false));
+        assert_eq!(receipts(Some(&[0; 32]), &whole), Err(Fault::OtherRun));
+        assert_eq!(receipts(None, SPLIT), Err(Fault::Input("fault Q2".into())));
+        assert_eq!((receipt(None, 3, SPLIT), receipt(None, 16, SPLIT)), (Err(Fault::Nobody), Err(Fault::Misuse)));
+        assert_eq!(
+            (accuse_receipts(None, 0, &whole), accuse_receipts(None, 3, &whole)),
+            (Ok(None), Err(Fault::Nobody))
+        );
+        assert_eq!(accuse_receipts(Some(&[0; 32]), 0, &whole), Err(Fault::OtherRun));
     }
 
     #[test]

@@ -3,9 +3,10 @@
 //! The work is done by two static libraries, whose headers are `sm_embed.h` and `sm_node.h`; `README.md` says how they
 //! are linked. A general is a node, and an order is a value.
 //!
-//! The jobs are what `sm_tool` does over bytes: [`audit`], [`draw`], [`accuse`], [`evidence`], [`decide`], [`show`],
-//! [`explain`], [`words`] and [`plan`]. Some have a twin that takes the run ids that are expected, as [`audit_of`].
-//! Threads may make them at the same time. [`judge`] and [`decisions`] give the answers of two of them in their parts. A
+//! The jobs are what `sm_tool` does over bytes: [`audit`], [`draw`], [`accuse`], [`evidence`], [`receipt`], [`receipts`],
+//! [`decide`], [`show`], [`explain`], [`words`] and [`plan`]. Some have a twin that takes the run ids that are expected, as
+//! [`audit_of`]. Threads may make them at the same time. [`judge`] and [`decisions`] give the answers of two of them in
+//! their parts. [`shown`] tells an actuator the value that receipts show. A
 //! [`Node`] is driven over the caller's transport, by any thread, one call at a time. A [`Bundle`] of logs is what `audit`
 //! judges.
 #![warn(missing_docs)]
@@ -23,9 +24,10 @@ mod heap;
 pub use fault::{Fault, NodeFault};
 pub use header::{Header, Numbers, Root, Seed, Version};
 pub use jobs::{
-    accuse, accuse_of, audit, audit_json, audit_of, decide, decide_json, decisions, draw, draw_of, evidence,
+    accuse, accuse_of, accuse_receipts, audit, audit_json, audit_of, decide, decide_json, decisions, draw, draw_of,
 };
-pub use jobs::{evidence_json, evidence_of, explain, judge, plan, refute, run_ids, show, show_json, show_of, version};
-pub use jobs::{versions_match, words, Answer, RunId};
-pub use node::{Bundle, FrameHead, Keys, Node};
-pub use verdicts::{Across, Conviction, Decision, Finding, Judgement, RunDecision, Said, Status, Verdict, Verdicts};
+pub use jobs::{evidence, evidence_json, evidence_of, explain, judge, plan, receipt, receipts, receipts_json, refute};
+pub use jobs::{run_ids, show, show_json, show_of, version, versions_match, words, Answer, RunId};
+pub use node::{shown, Bundle, FrameHead, Keys, Node};
+pub use verdicts::{Across, Conviction, Decision, Finding, Judgement, Receipt, Receipts, RunDecision, Said, Status};
+pub use verdicts::{Verdict, Verdicts};

@@ -5,8 +5,9 @@ use crate::header::{Header, Root, Seed, Version};
 use crate::raw::{self, written, SmFrameHead, SmLog, SmNode, SmPair};
 use crate::{Fault, RunId};
 
-/// Most frames without a chain, and small logs, fit into this room.
+/// Most frames without a chain, and small logs, fit into the first room, and each receipt into the second.
 const FIRST_ROOM: usize = 1 << 12;
+const RECEIPT_ROOM: usize = 17_500;
 /// The most walks of a bundle, the bytes of the longest, and the bytes in front of a log.
 const MOST_WALKS: usize = 120;
 const WALK_BYTES: usize = 17;
@@ -206,6 +207,29 @@ impl Node {
         });
         Fault::of_node(status, 0).map(|()| log)
     }
+
+    /// The receipt of a node that has ended, which shows its decision without its log.
+    pub fn receipt(&mut self) -> Result<Vec<u8>, Fault> {
+        // SAFETY: as in `send`.
+        let (status, receipt) = written(RECEIPT_ROOM, |room, room_bytes, count| unsafe {
+            raw::sm_node_receipt(&mut *self.0.place, room, room_bytes, count)
+        });
+        Fault::of_node(status, 0).map(|()| receipt)
+    }
+}
+
+/// The value (order) that receipts of the run with this id show, which stand one behind another: more than m nodes have a
+/// receipt there that says the value and holds. `None` if they show no value, or two. [`Fault::OtherRun`] for receipts of
+/// another run. Faults are Q1, Q2, Q4 and Q5, and those of a header.
+pub fn shown(run: &RunId, receipts: &[u8]) -> Result<Option<u32>, Fault> {
+    let (mut order, mut fault) = (raw::NO_ORDER, 0);
+    let (at, length) = (receipts.as_ptr(), receipts.len());
+    // SAFETY: the pointers are of pieces of memory of these lengths that do not overlap, and nobody else has the last two.
+    let status = unsafe { raw::sm_node_shown(run.as_ptr(), at, length, &mut order, &mut fault) };
+    if status == raw::NO {
+        return Ok(None);
+    }
+    Fault::of_node(status, fault).map(|()| Some(order))
 }
 
 /// What the head of a frame says. Nobody signs a head. A transport goes by it to keep the frames of later rounds.

@@ -33,6 +33,7 @@ pub struct SmOptions {
     pub run_count: usize,
     pub strict: u32,
     pub form: u32,
+    pub receipts: u32,
 }
 
 /// `sm_fact`.
@@ -95,9 +96,17 @@ extern "C" {
     pub fn sm_audit(input: *const u8, input_bytes: usize, options: *const SmOptions, answer: *mut SmAnswer) -> u32;
     pub fn sm_draw(input: *const u8, input_bytes: usize, options: *const SmOptions, answer: *mut SmAnswer) -> u32;
     pub fn sm_evidence(input: *const u8, input_bytes: usize, options: *const SmOptions, answer: *mut SmAnswer) -> u32;
+    pub fn sm_receipts(input: *const u8, input_bytes: usize, options: *const SmOptions, answer: *mut SmAnswer) -> u32;
     pub fn sm_decide(input: *const u8, input_bytes: usize, options: *const SmOptions, answer: *mut SmAnswer) -> u32;
     pub fn sm_show(input: *const u8, input_bytes: usize, options: *const SmOptions, answer: *mut SmAnswer) -> u32;
     pub fn sm_accuse(
+        general: u32,
+        input: *const u8,
+        input_bytes: usize,
+        options: *const SmOptions,
+        answer: *mut SmAnswer,
+    ) -> u32;
+    pub fn sm_receipt(
         general: u32,
         input: *const u8,
         input_bytes: usize,
@@ -148,6 +157,14 @@ extern "C" {
     pub fn sm_node_end_round(node: *mut SmNode) -> u32;
     pub fn sm_node_finish(node: *mut SmNode) -> u32;
     pub fn sm_node_log(node: *mut SmNode, room: *mut u8, room_bytes: usize, count: *mut usize) -> u32;
+    pub fn sm_node_receipt(node: *mut SmNode, room: *mut u8, room_bytes: usize, count: *mut usize) -> u32;
+    pub fn sm_node_shown(
+        run_id: *const u8,
+        receipts: *const u8,
+        receipt_bytes: usize,
+        order: *mut u32,
+        fault: *mut u32,
+    ) -> u32;
     pub fn sm_node_order(node: *mut SmNode, order: *mut u32) -> u32;
     pub fn sm_node_free(node: *mut SmNode);
     pub fn sm_node_round(node: *mut SmNode, round: *mut u32) -> u32;

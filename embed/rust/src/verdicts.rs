@@ -13,6 +13,10 @@ const FACT_FINDING: u32 = 4;
 const FACT_CONVICTION: u32 = 5;
 const FACT_ACROSS: u32 = 6;
 const FACT_EQUAL_ROOTS: u32 = 7;
+const FACT_SHOWN: u32 = 8;
+const FACT_RECEIPT: u32 = 9;
+/// The number of a receipt that holds.
+const HOLDS: u32 = 1;
 const VERDICT_AGREED: u32 = 1;
 const VERDICT_EXPLAINED: u32 = 2;
 const VERDICT_NO: u32 = 3;
@@ -41,6 +45,72 @@ impl RunDecision {
     /// The decision that a fact tells.
     pub(crate) fn of(fact: &SmFact) -> RunDecision {
         RunDecision { general: fact.general, accepted: members(fact.set), order: fact.order }
+    }
+}
+
+/// What a receipt says of a node (general), and whether it holds: whether the node signed this.
+#[derive(Debug, Clone, PartialEq, Eq, Hash)]
+pub struct Receipt {
+    /// The node.
+    pub general: u32,
+    /// How many entries the log of the node has.
+    pub entries: u64,
+    /// The values (orders) that the node accepted, ascending.
+    pub accepted: Vec<u32>,
+    /// The value that the node decided.
+    pub order: u32,
+    /// Whether the receipt holds.
+    pub holds: bool,
+}
+
+impl Receipt {
+    /// The receipt that a fact tells.
+    fn of(fact: &SmFact) -> Receipt {
+        let &SmFact { general, entry, order, .. } = fact;
+        Receipt { general, entries: entry, accepted: members(fact.set), order, holds: fact.number == HOLDS }
+    }
+}
+
+/// What receipts of a run show.
+#[derive(Debug, Clone, PartialEq, Eq, Hash)]
+pub struct Receipts {
+    /// The run.
+    pub run_id: RunId,
+    /// How many nodes (generals) there are: n.
+    pub generals: u32,
+    /// How many of them the run is planned for to be faulty: m.
+    pub traitors: u32,
+    /// The values (orders) that more than m nodes show, ascending.
+    pub shown: Vec<u32>,
+    /// The receipts, in their order.
+    pub receipts: Vec<Receipt>,
+    /// The nodes that have two receipts which hold and have different heads, ascending.
+    pub convicted: Vec<u32>,
+}
+
+impl Receipts {
+    /// What the facts of an answer say; `None` for facts that no library tells.
+    pub(crate) fn of(facts: &[SmFact]) -> Option<Receipts> {
+        let (first, rest) = facts.split_first().filter(|(first, _)| first.kind == FACT_SHOWN)?;
+        let &SmFact { run_id, generals, traitors, set, .. } = first;
+        let mut told =
+            Receipts { run_id, generals, traitors, shown: members(set), receipts: vec![], convicted: vec![] };
+        for fact in rest {
+            match fact.kind {
+                FACT_RECEIPT => told.receipts.push(Receipt::of(fact)),
+                FACT_CONVICTION => told.convicted.push(fact.general),
+                _ => return None,
+            }
+        }
+        Some(told)
+    }
+
+    /// The one value that is shown: `None` if none is, or several are.
+    pub fn order(&self) -> Option<u32> {
+        match self.shown[..] {
+            [order] => Some(order),
+            _ => None,
+        }
     }
 }
 
@@ -296,11 +366,40 @@ impl Display for Decision {
     }
 }
 
+/// A set as a text has it.
+fn listed(members: &[u32]) -> String {
+    let members: Vec<String> = members.iter().map(u32::to_string).collect();
+    if members.is_empty() {
+        "-".to_owned()
+    } else {
+        members.join(",")
+    }
+}
+
 impl Display for RunDecision {
     fn fmt(&self, to: &mut Formatter<'_>) -> fmt::Result {
-        let members: Vec<String> = self.accepted.iter().map(u32::to_string).collect();
-        let set = if members.is_empty() { "-".to_owned() } else { members.join(",") };
-        write!(to, "general {} set {set} decides {}", self.general, self.order)
+        write!(to, "general {} set {} decides {}", self.general, listed(&self.accepted), self.order)
+    }
+}
+
+impl Display for Receipt {
+    fn fmt(&self, to: &mut Formatter<'_>) -> fmt::Result {
+        if !self.holds {
+            return write!(to, "general {} fails", self.general);
+        }
+        write!(to, "general {} set {} decides {}", self.general, listed(&self.accepted), self.order)
+    }
+}
+
+/// The text that `sm_tool receipts` writes.
+impl Display for Receipts {
+    fn fmt(&self, to: &mut Formatter<'_>) -> fmt::Result {
+        write!(to, "run ")?;
+        self.run_id.iter().try_for_each(|byte| write!(to, "{byte:02x}"))?;
+        writeln!(to, "\nshown {}", listed(&self.shown))?;
+        self.receipts.iter().try_for_each(|it| writeln!(to, "{it}"))?;
+        self.convicted.iter().try_for_each(|general| writeln!(to, "general {general} convicted"))?;
+        writeln!(to, "end")
     }
 }
 

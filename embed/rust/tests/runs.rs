@@ -4,7 +4,8 @@
 //! part. `trials/bindings.py` makes it by the program. Without it the runs are judged alone.
 
 use std::collections::BTreeMap;
-use vamuretu::{audit, run_ids, Bundle, Fault, FrameHead, Header, Keys, Node, NodeFault, Numbers, Root, Seed, Version};
+use vamuretu::{audit, run_ids, shown, Bundle, Fault, FrameHead, Header, Keys, Node, NodeFault, Numbers};
+use vamuretu::{Root, Seed, Version};
 
 /// The seeds of the nodes (generals) of a scenario whose seed is zero (docs/FORMATS.md).
 const SEEDS: [&str; 4] = [
@@ -33,8 +34,11 @@ fn node_of(header: &Header, general: u32, order: u8) -> Node {
     Node::new(header, general, &seed_of(general), (general == 0).then_some(order)).expect("a node")
 }
 
-/// The logs of a run in which some nodes never begin, with what their nodes decide.
-fn drive(header: &Header, order: u8, silent: &[u32]) -> Result<Vec<(u32, Vec<u8>, u32)>, Fault> {
+/// What a node that has ended leaves: its number, its log, what it decided, and its receipt.
+type Left = (u32, Vec<u8>, u32, Vec<u8>);
+
+/// What is left of a run in which some nodes never begin.
+fn drive(header: &Header, order: u8, silent: &[u32]) -> Result<Vec<Left>, Fault> {
     let loyal = (0..4).filter(|general| !silent.contains(general));
     let mut nodes: BTreeMap<u32, Node> = loyal.map(|general| (general, node_of(header, general, order))).collect();
     for _ in 0..header.rounds() {
@@ -52,16 +56,32 @@ fn drive(header: &Header, order: u8, silent: &[u32]) -> Result<Vec<(u32, Vec<u8>
     }
     let end = |(general, mut node): (u32, Node)| {
         node.finish()?;
-        Ok((general, node.log()?, node.order()?))
+        Ok((general, node.log()?, node.order()?, node.receipt()?))
     };
     nodes.into_iter().map(end).collect()
+}
+
+/// The receipts of nodes that have ended show the value that they decided.
+fn check_receipts(header: &Header, order: u8, ended: &[Left]) {
+    let run = header.run_id().expect("a run id");
+    let receipts: Vec<&[u8]> = ended.iter().map(|left| left.3.as_slice()).collect();
+    let whole = receipts.concat();
+    assert_eq!(shown(&run, &whole), Ok(Some(order.into())));
+    assert_eq!((shown(&run, receipts[0]), shown(&run, &[receipts[0]; 3].concat())), (Ok(None), Ok(None)));
+    assert_eq!(shown(&[0; 32], &whole), Err(Fault::OtherRun));
+    for (given, fault) in
+        [(&whole[1..], NodeFault::Q2), (&whole[..9], NodeFault::Q1), (&whole[..whole.len() - 1], NodeFault::Q1)]
+    {
+        assert_eq!(shown(&run, given), Err(Fault::Node(fault)));
+    }
 }
 
 /// The run of a header, whose bundle has to be that of a file, and its verdict `agreed`.
 fn check(name: &str, header: &Header, order: u8, silent: &[u32]) {
     let ended = drive(header, order, silent).expect("a run");
     assert!(ended.iter().all(|it| it.2 == u32::from(order)));
-    let logs: Vec<(u32, &[u8])> = ended.iter().map(|(general, log, _)| (*general, log.as_slice())).collect();
+    check_receipts(header, order, &ended);
+    let logs: Vec<(u32, &[u8])> = ended.iter().map(|(general, log, ..)| (*general, log.as_slice())).collect();
     let bundle = Bundle::new(header, silent, &logs).expect("a bundle");
     match std::env::var_os("VAMURETU_BUNDLES") {
         Some(folder) => {
@@ -145,7 +165,7 @@ fn calls() {
     }
     let (mut own, mut other) = (node_of(&header, 0, 2), node_of(&header, 1, 2));
     assert_eq!(own.send(1), Err(Fault::Misuse));
-    assert_eq!(own.log(), Err(Fault::Misuse));
+    assert_eq!((own.log(), own.receipt()), (Err(Fault::Misuse), Err(Fault::Misuse)));
     assert_eq!(own.order(), Err(Fault::Misuse));
     assert_eq!(own.finish(), Err(Fault::Misuse));
     assert_eq!(own.end_round(), Err(Fault::Misuse));

@@ -9,7 +9,7 @@ use Rattle.gen_log.specs.Writing.{LogWriter, open_log}
 use Rattle.gen_scenario.specs.Part.{Part}
 use Rattle.gen_general.specs.Loops.Journals.{IsRecord}
 use Rattle.gen_general.specs.Participant.{sends}
-use Rattle.gen_general.specs.Recording.{Recorder, StandBefore, recorder_at_start, with_recvs, with_sends}
+use Rattle.gen_general.specs.Recording.{HasOwnRoot, Recorder, StandBefore, recorder_at_start, with_recvs, with_sends}
 use Rattle.gen_node.specs.declared.stages.Stage.{Stage}
 use Rattle.gen_node.specs.declared.stages.Stage.TheVariants.{Between, Sending, Open, Hearing}
 use Rattle.gen_node.specs.Held.{Held, frame_in}
@@ -43,6 +43,7 @@ pub record IsNode (h : RunHeader) (r : Recorder) (stage : Stage) (out : List Hel
   pub header : header_at r ≡ h
   pub unscripted : r.standing.known.script ≡ None
   pub ring : IsSome r.standing.ring
+  pub root : HasOwnRoot r.standing.known r.standing.ring
   pub acts : IsRecord r.standing (log_begun r.standing.known)
   pub place : StandBefore h.network r.written (next_place stage r.standing.round)
   pub holds : HoldsFrames stage r out

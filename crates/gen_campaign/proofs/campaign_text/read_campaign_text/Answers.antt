@@ -4,7 +4,7 @@ use Rattle.gen_types.specs.declared.reading.ReadError.{ReadError}
 use Rattle.gen_types.specs.Reading.{Gives}
 use Rattle.gen_types.proofs.Laws.{only_by}
 use Rattle.gen_scenario.specs.Scenario.{Scenario, IsScenario}
-use Rattle.gen_report.specs.declared.fault.ScenarioFault.{ScenarioFault}
+use Rattle.gen_text.specs.declared.fault.ScenarioFault.{ScenarioFault}
 use Rattle.gen_campaign.specs.CampaignText.{SpellsCampaignText}
 use Rattle.gen_campaign.specs.CampaignTextReading.{campaign_text_of}
 use Rattle.gen_campaign.proofs.AgainTexts.{campaign_again}

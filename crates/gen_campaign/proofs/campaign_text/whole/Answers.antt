@@ -5,12 +5,12 @@ use Rattle.gen_types.specs.declared.reading.ReadError.{ReadError}
 use Rattle.gen_types.specs.declared.reading.ReadError.TheVariants as errors
 use Rattle.gen_types.specs.Reading.{◌>>=◌, check, Fails}
 use Rattle.gen_scenario.specs.Scenario.{Scenario, IsScenario}
-use Rattle.gen_report.specs.declared.cursor.Numbered.{Numbered}
-use Rattle.gen_report.specs.declared.fault.LineFault.TheVariants.{Extra}
-use Rattle.gen_report.specs.declared.fault.ScenarioFault.{ScenarioFault}
-use Rattle.gen_report.specs.Cursor.{Cursor, start_of}
-use Rattle.gen_report.specs.CursorReading.{numbered, is_over}
-use Rattle.gen_report.specs.LineReading.{fault_at}
+use Rattle.gen_text.specs.declared.cursor.Numbered.{Numbered}
+use Rattle.gen_text.specs.declared.fault.LineFault.TheVariants.{Extra}
+use Rattle.gen_text.specs.declared.fault.ScenarioFault.{ScenarioFault}
+use Rattle.gen_text.specs.Cursor.{Cursor, start_of}
+use Rattle.gen_text.specs.CursorReading.{numbered, is_over}
+use Rattle.gen_text.specs.LineReading.{fault_at}
 use Rattle.gen_campaign.specs.Campaign.{is_run_count}
 use Rattle.gen_campaign.specs.CampaignTextReading.{texts_at, campaign_text_of}
 use Rattle.gen_campaign.proofs.TextLoop.{goes_on, ends, is_done}

@@ -1,4 +1,4 @@
-use Rattle.std.proofs.Common.{◌≡◌, map, take}
+use Rattle.std.proofs.Common.{map, take}
 use Rattle.gen_words.specs.Several.{AreNamed}
 use Rattle.gen_words.proofs.several.logs_named.Given as goal
 

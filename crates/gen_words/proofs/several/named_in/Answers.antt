@@ -1,4 +1,4 @@
-use Rattle.std.proofs.Common.{◌∙◌, List, [], ap, map, option_map, subst, sym}
+use Rattle.std.proofs.Common.{◌∙◌, List, ap, map, option_map, subst, sym}
 use Rattle.std.specs.Prelude.{IfOk, MatchOption}
 use Rattle.clap.specs.Words.{Text, found_of}
 use Rattle.gen_words.specs.Several.{AreNamed, NamesNone}

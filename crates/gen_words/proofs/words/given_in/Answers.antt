@@ -19,10 +19,11 @@ returns-clause-ok c =
         faulty = c.get_str-5.ensures ∙ first_value-rows found (codes "faulty");
         strict = c.get_str-6.ensures ∙ first_value-rows found (codes "strict");
         json = c.get_str-7.ensures ∙ first_value-rows found (codes "json");
-        tall = c.get_str-8.ensures ∙ first_value-rows found (codes "tall");
-        slot = c.get_str-9.ensures ∙ first_value-rows found (codes "slot");
-        print_run = c.get_str-10.ensures ∙ first_value-rows found (codes "print-run");
-        file = c.get_str-11.ensures ∙ first_value-rows found (codes "file");
+        receipts = c.get_str-8.ensures ∙ first_value-rows found (codes "receipts");
+        tall = c.get_str-9.ensures ∙ first_value-rows found (codes "tall");
+        slot = c.get_str-10.ensures ∙ first_value-rows found (codes "slot");
+        print_run = c.get_str-11.ensures ∙ first_value-rows found (codes "print-run");
+        file = c.get_str-12.ensures ∙ first_value-rows found (codes "file");
       }),
     )
 

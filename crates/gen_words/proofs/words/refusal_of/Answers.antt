@@ -44,8 +44,8 @@ returns-then-is_none-4 c =
     let faulty : (takes_faulty c.args.name.now && is_missing c.args.choices.now.faulty) ≡ true = search rules in
     faulty_alone _ _ _ _ _ _ capacity workers general slot runs faulty
 
-pub returns-else-matches-3 : goal.returns-else-matches-3
-returns-else-matches-3 c =
+pub returns-else-matches-4 : goal.returns-else-matches-4
+returns-else-matches-4 c =
     let capacity : (takes_capacity c.args.name.now && is_missing (number_between 1 16 (option_map (λ t. t.now) c.args.capacity))) ≡ false = search rules in
     let workers : (takes_workers c.args.name.now && is_missing (number_between 1 16 (option_map (λ t. t.now) c.args.workers))) ≡ false = search rules in
     let general : (takes_general c.args.name.now && is_missing (number_between 0 15 (option_map (λ t. t.now) c.args.general))) ≡ false = search rules in

@@ -28,7 +28,7 @@ use Rattle.gen_general.specs.contracts.recording.Recorder as recorder
 use Rattle.gen_node.specs.contracts.held.Held as rows
 use Rattle.gen_node.specs.contracts.nodes.Node as nodes
 use Rattle.gen_log.specs.contracts.sealed.SealedLog as sealed
-use Rattle.sm_node.specs.contracts.held.EndedNode as ending
+use Rattle.sm_node.specs.contracts.ended.EndedNode as ending
 use Rattle.sm_node.specs.contracts.held.SlotKeys as keys
 use Rattle.sm_node.specs.Owning.{node_owns}
 use Rattle.sm_node.specs.contracts.held.NodeHandle as held
@@ -84,13 +84,13 @@ sealed_send : IsSend sealed.the_row
 sealed_send = search (sendable, crosses) depth 40 fits 20000
 
 ending_send : IsSend ending.the_row
-ending_send = search (sendable, crosses, sealed_send) depth 40 fits 20000
+ending_send = search (sendable, crosses, header_send, sealed_send) depth 40 fits 20000
 
 keys_send : IsSend keys.the_row
 keys_send = search (sendable, crosses, tree_send) depth 40 fits 20000
 
 held_send : IsSend held.the_row
-held_send = search (sendable, crosses, tree_send, node_send, sealed_send) depth 40 fits 20000
+held_send = search (sendable, crosses, tree_send, node_send, ending_send) depth 40 fits 20000
 
 pointer_send : IsSend RawPtr
 pointer_send = search sendable

@@ -1,0 +1,4 @@
+pub mod PlainEntries
+pub mod PlainShown
+pub mod PlainVerdicts
+pub mod Ranges

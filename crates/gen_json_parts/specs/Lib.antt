@@ -1,0 +1,9 @@
+pub mod BundleData
+pub mod EntryData
+pub mod EvidenceLines
+pub mod FaultData
+pub mod FindingData
+pub mod HeaderData
+pub mod LogData
+pub mod StatusData
+pub mod VerdictData

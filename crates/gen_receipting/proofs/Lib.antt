@@ -1,0 +1,3 @@
+pub mod Accused
+pub mod Given
+pub mod PlainTold

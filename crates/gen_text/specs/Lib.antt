@@ -1,0 +1,14 @@
+pub mod BlocksReading
+pub mod Cursor
+pub mod CursorReading
+pub mod EdgeReading
+pub mod Fields
+pub mod ItemReading
+pub mod KeysReading
+pub mod LineReading
+pub mod NumbersReading
+pub mod Scenario
+pub mod ScenarioReading
+pub mod Scripts
+pub mod Text
+pub mod Told
