@@ -185,7 +185,7 @@ def receipt_cases(program):
     yield "two heads", words, given
     yield from (("two heads", words, receipts) for words in (["receipts"], ["receipts", "--json"]))
     yield "two heads", ["accuse", "--receipts", "--general", "1"], receipts
-    yield "no receipts", ["receipts", "--json"], receipts[:-1]
+    yield "no receipts", ["receipts"], receipts[:-1]
 
 
 def written_in(folder, files):
