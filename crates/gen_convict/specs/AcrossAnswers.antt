@@ -5,7 +5,8 @@ use Rattle.gen_net.specs.Header.{RunHeader, IsHeader, header_spelling, run_id_of
 use Rattle.gen_log.specs.Log.{RunLog}
 use Rattle.gen_convict.specs.declared.run_texts.RunText.{RunText}
 use Rattle.gen_convict.specs.Across.{IsOfOtherRun}
-use Rattle.gen_convict.specs.Refuting.{Refutation, Forged, Collision, AreColliding}
+use Rattle.gen_ots.specs.Colliding.{AreColliding}
+use Rattle.gen_convict.specs.Refuting.{Refutation, Forged, Collision}
 
 -- the answer is one of the two texts, of the run that the log isn't of, or two strings that collide
 abbrev pub IsAnswerAcross : ℕ → RunText → RunText → RunLog → Refutation → Type 0

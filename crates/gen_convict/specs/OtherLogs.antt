@@ -4,7 +4,8 @@ use Rattle.gen_net.specs.Header.{RunHeader}
 use Rattle.gen_log.specs.Log.{RunLog}
 use Rattle.gen_convict.specs.Accused.{TextVerifies}
 use Rattle.gen_convict.specs.Contradictions.{IsSealedLogOf}
-use Rattle.gen_convict.specs.Refuting.{HasText, IsHeadIn, Refutation, Forged, Collision, AreColliding}
+use Rattle.gen_ots.specs.Colliding.{AreColliding}
+use Rattle.gen_convict.specs.Refuting.{HasText, IsHeadIn, Refutation, Forged, Collision}
 
 -- the bytes are a log that says it is the general's of this run, its head verifies, and its entries are not
 -- those of the general's own log

@@ -1,8 +1,8 @@
 -- What answers a claim against a general that kept a follower's log: a text that the log doesn't have, or two
 -- texts with one hash.
-use Rattle.std.specs.Prelude.{ℕ, ◌≡◌, ◌≢◌, ◌⊎◌, List, ◌∷◌, ◌++◌}
-use Rattle.sha2.specs.Sha256.{sha256}
+use Rattle.std.specs.Prelude.{ℕ, ◌≡◌, ◌⊎◌, List, ◌∷◌, ◌++◌}
 use Rattle.gen_types.specs.Spelled.{Spells}
+use Rattle.gen_ots.specs.Colliding.{AreColliding}
 use Rattle.gen_net.specs.Departs.{IsFollowersLog}
 use Rattle.gen_net.specs.Header.{RunHeader, IsHeader, run_id_of}
 use Rattle.gen_log.specs.declared.entries.Entry.{Entry}
@@ -67,10 +67,6 @@ IsForgedIn h accused (MissingFromLog bytes s signature) own text =
 IsForgedIn h accused (DepartingLog bytes p) own text = IsForged h accused (DepartingLog bytes p) own text
 IsForgedIn h accused (AcrossRuns x y) own text =
     IsOfOtherRun accused x own text ⊎ IsOfOtherRun accused y own text
-
--- the two strings differ and have one hash
-abbrev pub AreColliding : List ℕ → List ℕ → Type 0
-AreColliding a b = (a ≢ b) × (sha256 a ≡ sha256 b)
 
 -- the answer refutes the claim: a text of it is forged, or two strings collide
 abbrev pub IsRefutation : RunHeader → ℕ → Claim → RunLog → Refutation → Type 0

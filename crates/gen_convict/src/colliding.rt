@@ -4,7 +4,8 @@ ghost use Rattle.std.specs.List.{AllByRecursion};
 ghost use Rattle.sha2.specs.Sha256.{sha256};
 ghost use Rattle.gen_log.specs.Entry.{IsEntryOf};
 ghost use Rattle.gen_log.specs.Links.{link_behind};
-ghost use Rattle.gen_convict.specs.Refuting.{AreColliding, link_text};
+ghost use Rattle.gen_ots.specs.Colliding.{AreColliding};
+ghost use Rattle.gen_convict.specs.Refuting.{link_text};
 
 use crate::laws::links_tell;
 use gen_log::{Entry, LINK_PREFIX, entry_bytes};

@@ -1,11 +1,8 @@
--- Two texts with one hash.
-use Rattle.std.specs.Prelude.{ℕ, ◌≡◌, ◌≢◌, List}
-use Rattle.sha2.specs.Sha256.{sha256}
+-- The two texts of a collision.
+use Rattle.std.specs.Prelude.{ℕ, List}
+use Rattle.gen_ots.specs.Colliding.{AreColliding}
 use Rattle.gen_identity.specs.declared.colliding.Collision.{Collision}
 use Rattle.gen_identity.specs.declared.colliding.Collision.TheVariants.{OfLeaves, OfNodes}
-
-abbrev pub AreColliding : List ℕ → List ℕ → Type 0
-AreColliding a b = (a ≢ b) × (sha256 a ≡ sha256 b)
 
 -- the two texts of a collision
 abbrev pub first_text : Collision → List ℕ

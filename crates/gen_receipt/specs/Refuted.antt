@@ -5,7 +5,8 @@ use Rattle.gen_net.specs.Header.{RunHeader}
 use Rattle.gen_log.specs.declared.entries.Entry.{Entry}
 use Rattle.gen_log.specs.Log.{RunLog}
 use Rattle.gen_convict.specs.Accused.{TextVerifies}
-use Rattle.gen_convict.specs.Refuting.{HasText, Refutation, Forged, Collision, AreColliding}
+use Rattle.gen_ots.specs.Colliding.{AreColliding}
+use Rattle.gen_convict.specs.Refuting.{HasText, Refutation, Forged, Collision}
 use Rattle.gen_receipt.specs.declared.receipts.Receipt.{Receipt}
 use Rattle.gen_receipt.specs.Receipts.{decide_in, head_shown}
 

@@ -2,7 +2,7 @@ use Rattle.std.proofs.Common.{◌≡◌, List, ℕ, subst, sym, ◌∙◌}
 use Rattle.std.specs.Cmp.Lexicographic.{same_text}
 use Rattle.gen_net.specs.Header.{run_id_of}
 use Rattle.gen_convict.specs.AcrossAnswers.{run_id_text}
-use Rattle.gen_convict.specs.Refuting.{AreColliding}
+use Rattle.gen_ots.specs.Colliding.{AreColliding}
 use Rattle.gen_convict.proofs.across_checking.refute_across.Goals as goal
 
 pub returns-then-eq : goal.returns-then-eq
