@@ -3,6 +3,7 @@
 
     tools/edits.py [--in FOLDER] [CRATE ..]    tries the edits of these crates, or of all
     tools/edits.py --check                     only looks whether each edit, the gate's and the open ones too, still applies
+    tools/edits.py --open                      prints what fails with each open body, by the first line of its file
 
 An edit is a file edits/CRATE/NAME.edit, of the form of the gate's own edits (crates/CRATE/must-fail). The edits are put into
 a copy of the repository, whose libraries are proved first; then `rt must-fail` tries the edits of as many crates at a time
@@ -20,8 +21,8 @@ from crates import below, crates_of
 
 TOP = os.path.dirname(os.path.dirname(os.path.abspath(__file__)))
 EDITS = os.path.join(TOP, "edits")
-# Bodies that no contract refuses.
-OPEN = "open"
+# Bodies that no contract refuses, and how the first line of each says what fails with it.
+OPEN, FAILS = "open", "# Fails: "
 PARTS = ("src", "specs", "proofs")
 # What one check takes at most, in the dearest crates.
 GIB_OF_A_CHECK = 4
@@ -64,17 +65,33 @@ def wrong_with(edit, crate):
     return None if text else "it names no file"
 
 
+def open_edits(crate):
+    return edits_in(os.path.join(EDITS, OPEN, crate))
+
+
+def wrong_head(edit):
+    """Why an open edit doesn't say what fails with it, or None."""
+    return None if read(edit).startswith(FAILS) else f"its first line doesn't begin with {FAILS.strip()}"
+
+
 def check():
     """Looks whether each edit applies, those of the gate and the open ones too. Returns how many do, and how many don't."""
     well = wrong = 0
     for crate in crates_of(TOP):
-        others = os.path.join(TOP, "crates", crate, "must-fail"), os.path.join(EDITS, OPEN, crate)
-        for edit in [*edits_of(crate), *edits_in(others[0]), *edits_in(others[1])]:
-            why = wrong_with(edit, crate)
+        opened = open_edits(crate)
+        for edit in [*edits_of(crate), *edits_in(os.path.join(TOP, "crates", crate, "must-fail")), *opened]:
+            why = wrong_with(edit, crate) or (wrong_head(edit) if edit in opened else None)
             well, wrong = well + (not why), wrong + bool(why)
             if why:
                 print(f"{os.path.relpath(edit, TOP)}: {why}")
     return well, wrong
+
+
+def tell_open():
+    """Prints what fails with each open body."""
+    for crate in crates_of(TOP):
+        for edit in open_edits(crate):
+            print(f"{crate} {os.path.basename(edit).removesuffix('.edit')}: {read(edit).partition(FAILS)[2].partition(chr(10))[0]}")
 
 
 def count_jobs():
@@ -138,6 +155,8 @@ def main():
         well, wrong = check()
         print(f"{well} edits apply, {wrong} do not")
         return 1 if wrong else 0
+    if words == ["--open"]:
+        return tell_open()
     kept = os.path.abspath(words[1]) if words[:1] == ["--in"] and len(words) > 1 else None
     crates = (words[2:] if kept else words) or every
     if not set(crates) <= set(every):

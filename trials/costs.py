@@ -1,5 +1,8 @@
 """What the program asks of the system: starts of threads, and memory. No output tells whether an option reaches its call.
 
+`--workers` and the number of cores decide how many threads are started, and `--capacity` how much memory the edges take. A long
+input stands once in memory. The board at which two workers leave what they verified takes memory.
+
 The library that counts is count.c. No clock is looked at, so other work on the machine changes nothing.
 """
 import os

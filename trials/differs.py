@@ -3,7 +3,15 @@
 
     trials/differs.py PROGRAM [--seed N] [--cases N | --seconds N] [--first K] [--folder FOLDER]
 
-Status, standard output and standard error are compared. A case follows from the seed and its number alone.
+The commands take turns. Scenarios have 2 to 16 generals in lines, rings, stars, complete and other networks, of both versions, with
+a seed and without, and scripts with each word. Their texts are whole, or have a fault of each kind. Bundles and campaigns are
+whole, cut, lengthened, or have bits turned; their exhibits are moved, doubled or given to others; their walks and faulty sets are
+others; their logs have changed entries, and are linked and signed anew. Evidence is what `accuse` finds, whole and bent, or is put
+together of pieces of one run or of two. Receipts are of whole and of changed logs, or signed with the keys of a seed; some are bent
+or of another run. `bundle` gets headers and logs, and `answer` evidence made with the keys of the accused, and a log: in files, of
+which some are not there or are standard input. One case in twelve has other words on the command line.
+
+Status, standard output and standard error are compared: of the line of status 2 what the documents fix, of the version the first. A case follows from the seed and its number alone.
 Where the two differ, the input is written into a folder, and the line that shows it is printed.
 `reference` in place of PROGRAM has the reference make all inputs and answer alone.
 Want of memory or of threads is not looked at.

@@ -1,5 +1,8 @@
 """The library for C (embed/) against the program: its examples in C, C++ and Python answer as the program does.
 
+answers.c is tried on the cases of pinned.py, typed.c makes texts of facts alone, and the facts of each answer are compared with the
+reference's object. Each allocation is refused, and reading and writing fail.
+
 The archive is crates/sm_embed/out/libsm_embed.a, which `rt lib` builds in crates/sm_embed; without it, or without a
 compiler, nothing is tried, and a line says so. The examples are built with all warnings as errors, in C once more under
 the sanitizers of addresses and of undefined behaviour, and once more by CMakeLists.txt and the pkg-config file that it

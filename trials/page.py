@@ -1,6 +1,11 @@
 """The page (embed/page/) against the program: made anew, asked by Node on bent files, and used in a headless Chromium and in a
 headless Firefox.
 
+It names nothing outside. Node asks the page's own script (page_asks.mjs) of bent bundles and evidence, and of evidence with a log;
+each fault and each finding has a sentence. All calls of the library are compared with the native one (exported.py), on files that
+are drawn by the date or by the seed in PAGE_SEED. Browsers see drops, logs of the accused, expected runs, what is saved, the worker,
+network, keyboard, rules for screen readers, and contrast.
+
 The page is made by embed/page/make_page.py of crates/sm_embed/out/libsm_embed.a, which `rt lib` builds in crates/sm_embed.
 Without that archive or without rt nothing is tried; without Node or without a browser what wants it is left out. A line says
 so each time.

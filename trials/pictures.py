@@ -1,5 +1,7 @@
-"""Pictures: those of the examples, and each held against what the reference draws of the same bytes; well-formed XML of few
-elements, which fetches and runs nothing, of a size that is linear in the entries.
+"""Pictures of examples, worked cases and campaigns: each is byte for byte what the reference draws. Each is well-formed XML of few
+elements, fetches and runs nothing, and has a size that is linear in the entries.
+
+Also bundles with a log missing or doubled, faults, words, and a full device.
 """
 import os
 import xml.etree.ElementTree

@@ -4,8 +4,7 @@ In a block of indented lines one that begins with `$ ` is a command, and the lin
 end of the block, are what it prints, on standard output and standard error together. The commands of a document are run one
 after another by `sh` in a folder of their own, which has a copy of examples/, with `sm_tool` as the program. Besides,
 man/sm_tool.1 is the page that tools/man.py makes of docs/COMMANDS.md, man/*.3 are those that tools/man3.py makes of the headers,
-and each piece of code in docs/LIBRARY.md stands in
-the source that is named in front of it.
+and each piece of code in docs/LIBRARY.md stands in the source that is named in front of it.
 """
 import os
 import re

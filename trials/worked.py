@@ -1,5 +1,8 @@
 """Worked cases: inputs whose answers were computed by hand or by an independent implementation, and are stored.
 
+Also chains signed with a stolen key whose log is withheld, a bent signature, floods, evidence under somebody else's roots, bytes
+that are changed one by one, texts and words with faults, and the help, which is the reference's.
+
 Of each scenario in cases/ stand beside it the decisions and the verdict on the bundle of its run, and runs.txt has the
 digests of that bundle and that verdict, and of those of the scenarios of scenarios.py.
 """
