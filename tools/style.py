@@ -1,5 +1,5 @@
 #!/usr/bin/env python3
-"""Names each page that breaks the rules of docs/STYLE.md for the length of sentences, with its longest sentence.
+"""Names each page that breaks the rules of docs/CHANGING.md for the length of sentences, with its longest sentence.
 
     python3 tools/style.py          looks at the pages that keep the rules, at the top of the repository
     python3 tools/style.py --all    prints the numbers of every page: words a sentence, words of the longest, words, its name
@@ -40,7 +40,6 @@ KEPT = [
     "docs/PROTOCOL.md",
     "docs/README.md",
     "docs/ROWS.md",
-    "docs/STYLE.md",
     "docs/SYSTEM.md",
     "docs/VECTORS.md",
     "docs/WALK.md",
