@@ -164,15 +164,12 @@ def stack_of(words, given):
 
 
 def spelled(count):
-    """A number of bytes in few digits."""
-    for unit, size in (("MB", 10**6), ("KB", 10**3)):
-        if count >= 10 * size or count >= size and unit == "MB":
-            return f"{count / size:.1f} {unit}" if count < 100 * size else f"{count / size:.0f} {unit}"
-    return f"{count:,} B"
+    """A number of bytes in kilobytes."""
+    return f"{count / 1000:.1f}" if count < 100_000 else f"{count / 1000:,.0f}"
 
 
 def print_sizes(program):
-    """The table of bytes. Returns the text and the bundle of each case."""
+    """The table of bytes, in kilobytes. Returns the text and the bundle of each case."""
     print("| Network | m | d | q | Longest frame | All frames | All logs | Any frame at most | Any log at most |")
     print("|---|---|---|---|---|---|---|---|---|")
     made = []
