@@ -1,8 +1,8 @@
 #!/usr/bin/env python3
-"""Draws the pictures of docs/pictures/ from the tables of tools/pictures/, where no text overlaps anything.
+"""Draws the pictures of docs/pictures/ from the tables of tools/drawings/, where no text overlaps anything.
 
-    python3 tools/pictures.py            makes each docs/pictures/NAME.svg of tools/pictures/NAME.txt, at the top of the repository
-    python3 tools/pictures.py --check    names each picture that isn't what its table makes, or that overlaps
+    python3 tools/drawings.py            makes each docs/pictures/NAME.svg of tools/drawings/NAME.txt, at the top of the repository
+    python3 tools/drawings.py --check    names each picture that isn't what its table makes, or that overlaps
 
 A table has a line for each part. Behind `|` stand lines of text, of which one that begins with * is a heading:
 
@@ -23,7 +23,7 @@ import sys
 from collections import namedtuple
 from xml.sax.saxutils import escape
 
-TABLES, PICTURES = pathlib.Path("tools/pictures"), pathlib.Path("docs/pictures")
+TABLES, PICTURES = pathlib.Path("tools/drawings"), pathlib.Path("docs/pictures")
 Box = namedtuple("Box", "name kind x y width height")
 Text = namedtuple("Text", "kind x y anchor words")
 Line = namedtuple("Line", "kind ends has_head")
@@ -209,7 +209,7 @@ def wrong_in(table):
     picture, path = read_picture(table), PICTURES / f"{table.stem}.svg"
     yield from (f"{table}: {it}" for it in overlaps(picture))
     if not path.is_file() or path.read_text(encoding="utf-8") != svg_of(picture):
-        yield f"{path} is not the picture of {table}: run tools/pictures.py"
+        yield f"{path} is not the picture of {table}: run tools/drawings.py"
 
 
 def check(tables):
