@@ -164,40 +164,39 @@ def stack_of(words, given):
 
 
 def spelled(count):
-    """A number of bytes in few digits."""
-    for unit, size in (("MB", 10**6), ("KB", 10**3)):
-        if count >= 10 * size or count >= size and unit == "MB":
-            return f"{count / size:.1f} {unit}" if count < 100 * size else f"{count / size:.0f} {unit}"
-    return f"{count:,} B"
+    """A number of bytes in kilobytes."""
+    return f"{count / 1000:.1f}" if count < 100_000 else f"{count / 1000:,.0f}"
 
 
 def print_sizes(program):
-    """The table of bytes. Returns the text and the bundle of each case."""
-    print("| Network | m | d | q | Rounds | Longest frame | All frames | All logs | Bundle | Any frame at most | Any log at most |")
-    print("|---|---|---|---|---|---|---|---|---|---|---|")
+    """The table of bytes, in kilobytes. Returns the text and the bundle of each case."""
+    print("| Network | m | d | q | Longest frame | All frames | All logs | Any frame at most | Any log at most |")
+    print("|---|---|---|---|---|---|---|---|---|")
     made = []
     for name, edges, traitors, diameter, orders in CASES:
         sizes, text = Sizes(edges, traitors, diameter, orders), scenario(edges, traitors, diameter, 1, orders=orders)
         data = written(program, ["run"], text)
         check(sizes, data)
         made.append((name, traitors, diameter, orders, text, data))
-        numbers = [sizes.longest(), sizes.traffic(), sizes.logs(), len(data), sizes.most_frame(), sizes.most_log()]
-        print(f"| {name} | {traitors} | {diameter} | {orders} | {sizes.rounds} | {' | '.join(map(spelled, numbers))} |")
+        numbers = [sizes.longest(), sizes.traffic(), sizes.logs(), sizes.most_frame(), sizes.most_log()]
+        print(f"| {name} | {traitors} | {diameter} | {orders} | {' | '.join(map(spelled, numbers))} |")
     return made
 
 
 def print_times(program, made):
     """The table of times and memory."""
     print(f"\nA peak is at least that of the process that starts the program: {measured(['/bin/true'], b'')[1]:.0f} MiB.\n")
-    print("| Network | m | d | q | `run` | `audit` | `audit --workers 4` | Memory of `run` | of `audit` | Stack of `audit` |")
-    print("|---|---|---|---|---|---|---|---|---|---|")
+    print("| Network | m | d | q | `run` | `audit` | `audit --workers 4` | Memory of `run` | of `audit` |")
+    print("|---|---|---|---|---|---|---|---|---|")
+    stacks = set()
     for name, traitors, diameter, orders, text, data in made:
         run, of_run = measured([program, "run"], text)
         audit, of_audit = measured([program, "audit"], data)
         by_four, _ = measured([program, "audit", "--workers", "4"], data)
-        stack = stack_of([program, "audit"], data)
-        numbers = f"{run:.1f} ms | {audit:.1f} ms | {by_four:.1f} ms | {of_run:.0f} MiB | {of_audit:.0f} MiB | {stack} KiB"
+        stacks.add(stack_of([program, "audit"], data))
+        numbers = f"{run:.1f} ms | {audit:.1f} ms | {by_four:.1f} ms | {of_run:.0f} MiB | {of_audit:.0f} MiB"
         print(f"| {name} | {traitors} | {diameter} | {orders} | {numbers} |", flush=True)
+    print(f"\nThe stack of an audit, in KiB: {', '.join(map(str, stacks))}.")
 
 
 def main():
