@@ -1,7 +1,7 @@
 /* The library of nodes for C: one node (general) of a run, driven by the caller's program over the caller's transport.
 
    Link libsm_node.a and heap.c, which a release has as libsm_embed_heap.a too. libsm_embed.a may be linked beside them,
-   as for agree.c. docs/EMBED.md has a run call by call, the numbers to plan, and what becomes of lost, late and early
+   as for agree.c. docs/NODES.md has a run call by call, the numbers to plan, and what becomes of lost, late and early
    frames. A general is a node, and an order is a value.
 
    An sm_node is one pointer. The caller sets it to null before the first call, as by `sm_node node = {0};`, and does

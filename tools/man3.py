@@ -22,6 +22,8 @@ HEADERS = ["sm_embed", "sm_node"]
 SHARED = ["sm_status"]
 FOLDER = os.path.join(TOP, "man")
 ROW = re.compile(r"(SM_[A-Z0-9]+) {2,}(.*)")
+# The page of the documents that says more of a header and its functions.
+MORE = {"sm_embed": "docs/EMBED.md", "sm_node": "docs/NODES.md", "sm_status": "docs/EMBED.md"}
 # What a part of a row of misuse speaks of, and what a function takes that the part fits.
 OF_PARAMETER = {
     "the number of the general": "uint32_t general",
@@ -175,7 +177,8 @@ def page_of_function(header, first, block, name):
 def last(name, header=None):
     """The lines that a page ends with."""
     others = [it for it in [*HEADERS, *SHARED] if it != name and (header is None or it == header)]
-    return [".SH SEE ALSO", ", ".join(f"\\fB{it}\\fR(3)" for it in others) + ", \\fBsm_tool\\fR(1), docs/EMBED.md"]
+    more = MORE[header or name]
+    return [".SH SEE ALSO", ", ".join(f"\\fB{it}\\fR(3)" for it in others) + f", \\fBsm_tool\\fR(1), {more}"]
 
 
 def pages():

@@ -26,7 +26,7 @@ from scenarios import everybody
 
 LOOPBACK = {socket.AF_INET: "127.0.0.1", socket.AF_INET6: "::1"}
 SEED = b"datagrams"
-# By docs/EMBED.md and datagrams.c: what stands before a piece, the most bytes of a datagram, and how often a piece is sent.
+# By docs/NODES.md and datagrams.c: what stands before a piece, the most bytes of a datagram, and how often a piece is sent.
 FRONT, MOST, SENDINGS = 47, 1232, 4
 PIECE = MOST - FRONT
 MARK = b"SMD1"

@@ -430,16 +430,18 @@ def try_options(tally, native):
 
 
 def try_document(tally, folder):
-    """The pieces of C that docs/EMBED.md shows, each of which a compiler takes."""
-    with open(os.path.join(TOP, "docs", "EMBED.md"), encoding="utf-8") as file:
-        blocks = re.findall(r"^(?:(?: {4}.*)?\n)+", file.read(), re.M)
+    """The pieces of C that docs/EMBED.md and docs/NODES.md show, each of which a compiler takes."""
+    blocks = []
+    for page in ("EMBED.md", "NODES.md"):
+        with open(os.path.join(TOP, "docs", page), encoding="utf-8") as file:
+            blocks += re.findall(r"^(?:(?: {4}.*)?\n)+", file.read(), re.M)
     pieces = [textwrap.dedent(it) for it in blocks if it.lstrip("\n").startswith("    #include")]
     for number, piece in enumerate(pieces):
         path = os.path.join(folder, f"piece{number}.c")
         with open(path, "w", encoding="ascii") as file:
             file.write(piece)
         do(["cc", "-std=c11", *WARNINGS, "-I", EMBED, "-c", path, "-o", f"{path}.built"])
-    tally.hold("pieces of C in EMBED", None if len(pieces) > 1 else f"{len(pieces)}")
+    tally.hold("pieces of C in EMBED and NODES", None if len(pieces) > 2 else f"{len(pieces)}")
 
 
 def header_of(bundle):

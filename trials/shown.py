@@ -1,4 +1,7 @@
-"""What docs/EMBED.md shows: its function in C compiles and prints verdicts, and its run of two nodes over UDP goes as it stands.
+"""What docs/EMBED.md and docs/NODES.md show.
+
+The function in C of EMBED compiles and prints verdicts. What NODES shows of agree.c stands there, which nodes.py builds and runs.
+The run of two nodes over UDP of NODES goes as it stands.
 
 Each of the two nodes has a folder as its machine, and the addresses are free ones of this machine. Before the run a node is told
 a moment that has passed: it ends as one that is late, and leaves no log, so it can be started again.
@@ -19,7 +22,7 @@ from embed import EMBED, TOP, IsNotBuilt, do
 from processes import ARCHIVE, LATE, MOST_TRIES, NODES, OF_C, PARTS
 from programs import run
 
-PAGE = os.path.join(TOP, "docs", "EMBED.md")
+PAGES = [os.path.join(TOP, "docs", name) for name in ("EMBED.md", "NODES.md")]
 PROGRAMS = ["keygen", "header", "bundle", "general_udp"]
 # The length of a round on the page, and so long before the first round both are told when it begins, in seconds.
 ROUND, AHEAD = 1000, 1.5
@@ -35,9 +38,11 @@ int main(int count, char **words) {
 
 
 def blocks():
-    """The blocks of code of the page, without their indents."""
-    with open(PAGE, encoding="utf-8") as page:
-        found = re.findall(r"(?<=\n\n)(?:    .*\n|\n(?=    ))+", page.read())
+    """The blocks of code of the pages, without their indents."""
+    found = []
+    for name in PAGES:
+        with open(name, encoding="utf-8") as page:
+            found += re.findall(r"(?<=\n\n)(?:    .*\n|\n(?=    ))+", page.read())
     return [re.sub(r"^    ", "", block, flags=re.MULTILINE) for block in found]
 
 
@@ -45,7 +50,7 @@ def block_of(text):
     """The block that has a text, of which there is one."""
     found = [block for block in blocks() if text in block]
     if len(found) != 1:
-        raise IsNotBuilt(f"{len(found)} blocks of {PAGE} have {text!r}")
+        raise IsNotBuilt(f"{len(found)} blocks of {', '.join(PAGES)} have {text!r}")
     return found[0]
 
 
@@ -72,6 +77,14 @@ def function_wrong(program, folder):
         if (end.status, end.wrote) != (7, b"the input is of another run\nfault R1\n"):
             return f"{name} of another run: {end}"
     return None
+
+
+def quote_wrong():
+    """None where agree.c has each function that NODES shows of it."""
+    with open(os.path.join(EMBED, "agree.c"), encoding="utf-8") as file:
+        source = file.read()
+    lacking = [piece for piece in block_of("static void play").split("\n\n") if piece not in source]
+    return f"agree.c lacks {lacking}" if lacking else None
 
 
 def machines(folder):
@@ -160,6 +173,7 @@ def trials(program, tally):
         try:
             tally.hold("a function in C", function_wrong(program, folder))
             tally.count(4)
+            tally.hold("what is shown of agree.c", quote_wrong())
             try_run(program, tally, folder)
         except IsNotBuilt as told:
             tally.fail(str(told))

@@ -22,10 +22,14 @@
 
    A piece has PIECE bytes, and the last of a frame what is left. Numbers are big-endian. What is of another run, round,
    sender or receiver is dropped, and so is what does not fit into the longest frame. A neighbour has one frame of one
-   length at a time here, so memory is bounded.
+   length at a time here, so memory is bounded: the longest frame twice for each neighbour. A neighbour that does not
+   read loses its own frames. Whoever sends more than a machine can read hinders its general.
+
+   Set the clocks first, and then choose the moment to begin. A process that has read it goes over to the monotonic
+   clock: a clock that is set later changes nothing, and one that is set in between moves the general's rounds.
 
    Of the kernel each socket asks for a buffer of 4 MiB (SO_RCVBUF). Linux gives no more than net.core.rmem_max, and
-   does not say so. docs/EMBED.md has how long a round has to be, and how to set that number. */
+   does not say so. docs/NODES.md has how long a round has to be, and how to set that number. */
 #include "general.h"
 #include <netdb.h>
 #include <netinet/in.h>

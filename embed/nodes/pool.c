@@ -5,7 +5,7 @@
    SM_POOL_BYTES is the size. sm_pool_most tells the most bytes that were taken at one time, with 16 bytes for each
    block. A run of correct nodes takes less than faulty neighbours can cause. So run a program once with a large pool, in
    which faulty neighbours send every value in every round in which it can count, as bench/pools.py does. Add what
-   docs/EMBED.md says of signatures that do not count. Free memory may lie in pieces: take a quarter more. */
+   docs/NODES.md says of signatures that do not count. Free memory may lie in pieces: take a quarter more. */
 #include "../sm_heap.h"
 #include <stdalign.h>
 #include <stdatomic.h>

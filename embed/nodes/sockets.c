@@ -2,8 +2,9 @@
 
    All generals are started with the same FOLDER, in the same spelling. Nobody else may write there: a datagram is of
    the general whose socket there it comes from. The generals can write there too, so a general that puts its own socket
-   in the place of another's speaks in the other's name. A general that fills the sockets of others, or does not read
-   its own, hinders them.
+   in the place of another's speaks in the other's name. Under one user it can read the other seeds too. A general that
+   fills the sockets of others, or does not read its own, delays them, and each then ends as one that is late. Frames
+   that are none do not count. A process holds the longest frame once for each neighbour and once more.
 
    A general that can't go on may leave its socket in FOLDER, by the name GENERAL. Take it away before the general is
    started again.

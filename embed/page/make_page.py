@@ -10,6 +10,13 @@ library's heap. So the LLVM module that the static library is compiled from is k
 wasm64 beside a small heap in C (heap_wasm.c). That it is this module is tested: the same call makes an archive, which has
 to be the static library byte for byte. Nothing proves the steps behind that.
 
+A folder of links stands in place of the kit's tools, in which `clang` keeps a copy of the module. In its text the triple and
+the data layout of x86-64 become those of wasm64: both have pointers of 64 bits and align data alike, and sizes and offsets are
+numbers in the module already. The words that name the processor are taken out. A module that names instructions of a processor
+is refused. The kit's clang compiles the module in two steps, LLVM's passes and the choice of instructions, and between them the
+text is looked over for masks that LLVM compiles wrongly. The kit's linker puts the stack below the data. The hash of the page's
+script goes into the page's policy, and the worker runs the same script.
+
 Where something is missing, or the toolchain is another than the one that this was tried with, one line says so, and the
 status is 1.
 """
