@@ -42,7 +42,6 @@ KEPT = [
     "docs/ROWS.md",
     "docs/STYLE.md",
     "docs/SYSTEM.md",
-    "docs/VECTORS.md",
     "docs/WALK.md",
     "docs/WORDS.md",
     "edits/README.md",

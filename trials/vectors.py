@@ -1,6 +1,6 @@
 """The vectors of reference/vectors/ that are whole commands and no rows, which the gate tries: the program answers as they say.
 
-What each file is, docs/VECTORS.md says. That the files are what the reference makes is tried too.
+What each file is, docs/ROWS.md says. That the files are what the reference makes is tried too.
 """
 import hashlib
 import json
