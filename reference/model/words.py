@@ -25,8 +25,8 @@ class Row:
 
 def _row(line: str) -> Row:
     """A row as the document has it; the form is the name where the document has none."""
-    name, form, sentence = (cell.strip().replace("`", "") for cell in line[1:-1].split("|"))
-    return Row(name, form or name, sentence)
+    name, sentence, *forms = (cell.strip().replace("`", "") for cell in line[1:-1].split("|"))
+    return Row(name, forms[0] if forms else name, sentence)
 
 
 def rows() -> List[Row]:
