@@ -5,7 +5,7 @@
     tools/words.py --check    only says whether it is the one that the document makes, and whether the rows keep the rules
                               of the document; else the status is 1
 
-A row has a name, a sentence, and the form of a line. Where the document has no form, the form is the name.
+A row has a name, the form of a line, and a sentence. Where the document has no form, the form is the name.
 """
 import json
 import os
@@ -26,8 +26,8 @@ def read(path):
 
 def rows():
     """The rows of the document, in their order: name, form, sentence."""
-    found = re.findall(r"^\| `([^`]+)` \| ([^|\n]*) \|(?: `([^`]+)` \|)?$", read(DOCUMENT), re.MULTILINE)
-    return [(name, form or name, sentence.replace("`", "")) for name, sentence, form in found]
+    found = re.findall(r"^- `([^`]+)`(?:, `([^`]+)`)?: (.*)$", read(DOCUMENT), re.MULTILINE)
+    return [(name, form or name, sentence.replace("`", "")) for name, form, sentence in found]
 
 
 def table_of_code(found):
@@ -45,7 +45,7 @@ def letters_of(form):
 
 def names_of_formats():
     """The names of the faults, the findings and the kinds in the tables and lists of docs/FORMATS.md."""
-    return re.findall(r"^(?:\| `?|- )([A-Z]\d+)(?: |`|:)", read(FORMATS), re.MULTILINE)
+    return re.findall(r"^- `?([A-Z]\d+)(?: |`|:)", read(FORMATS), re.MULTILINE)
 
 
 def words_of_schema(schema):

@@ -72,7 +72,7 @@ def told_by(vectors):
 def named_in_formats():
     """The names of all faults and findings that docs/FORMATS.md has, and of the kinds of conviction."""
     with open(os.path.join(TOP, "docs", "FORMATS.md"), encoding="utf-8") as kept:
-        names = re.findall(r"^\| `?([A-Z]\d+)\b", kept.read(), re.MULTILINE)
+        names = re.findall(r"^- `?([A-Z]\d+)\b", kept.read(), re.MULTILINE)
     return {*names, "K1", "K2", "K3", "K4"} - UNTOLD
 
 
