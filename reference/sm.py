@@ -15,7 +15,7 @@ from model.command import (LONGEST_INPUT, WRITE_BYTES, Job, answer_job, answer_w
 
 
 PIECE = 1 << 20
-# What the system says, where that is told in other words (FORMATS.md#the-programs-answers).
+# What the system says, where that is told in other words (COMMANDS.md#the-second-line).
 REASONS = {errno.ENOENT: "no such file", errno.EISDIR: "is a folder", errno.EACCES: "permission denied",
            errno.EPERM: "permission denied", errno.ENOSPC: "no space is left"}
 TO_TERMINAL = 2, b"", b"error: bytes are not written to a terminal; for more, try '--help'\n"
@@ -30,7 +30,7 @@ class NotRead(Exception):
 
 
 def reason(error: OSError) -> str:
-    """What the system said, in words (FORMATS.md#the-programs-answers)."""
+    """What the system said, in words (COMMANDS.md#the-second-line)."""
     number = error.errno or 0
     return REASONS.get(number) or f"{os.strerror(number)} (os error {number})"
 
@@ -38,7 +38,7 @@ def reason(error: OSError) -> str:
 def answer(words: List[str], given: bytes) -> Tuple[int, bytes, bytes]:
     """The status, the standard output and the standard error of the words, with these bytes as standard input.
 
-    Files that the words name are read. FORMATS.md#the-programs-answers.
+    Files that the words name are read. COMMANDS.md#exit-status.
     """
     job = job_asked(words)
     return answer_words(words, given) if job is None else answer_files(job, lambda: given)
@@ -129,7 +129,7 @@ def tell(error: bytes) -> None:
 def main() -> int:
     """Answer the words of this process.
 
-    The order of faults and the status are those of FORMATS.md#the-programs-answers.
+    The order of faults and the status are those of COMMANDS.md#exit-status.
     """
     status, output, error = answer_here(sys.argv[1:])
     try:

@@ -1,38 +1,34 @@
 #!/usr/bin/env python3
-"""Names each row of docs/PROMISES.md whose definition or call isn't where the row says.
+"""Names each promise of docs/PROMISES.md whose definition or call isn't where the page says.
 
     python3 tools/promises.py    at the top of the repository
 
-A row of a table `Promise | Definition | Call and clause` names definitions in backticks behind links to files of `specs/`, and
-calls and clauses in backticks beside links to files of `src/`. Each definition has to be declared in the file behind whose link
-it stands. Each name of the last column has to be a function, a type, a clause or a law of a file that is linked there, or a
-definition or a field of a file that is linked in the column before.
+A promise is an item that begins with an anchor. Its last line has definitions, a colon, and calls with their clauses in brackets.
+Definitions and calls stand in backticks, the first of each file as a link to it. Each definition has to be declared in the file of
+`specs/` whose link it is or stands behind. Each name of the calls has to be a function, a type, a clause or a law of a file of
+`src/` that is linked there, or a definition or a field of a file that is linked before the colon.
 The numbers of lines that the reading order of promise 1 tells of its two tables have to be those of the linked files, to 25
 lines: of lines that are neither comment, import nor blank.
-It prints nothing, and its status is 0, where all is as the rows say.
+It prints nothing, and its status is 0, where all is as the page says.
 """
 import pathlib
 import re
 import sys
 
 PAGE = pathlib.Path("docs/PROMISES.md")
-HEAD = ["Promise", "Definition", "Call and clause"]
-LINK = re.compile(r"\[[^\]]*\]\(\.\./([^)#]+)(?:#[^)]*)?\)")
+ITEM = re.compile(r"^- <a id=.*\n(?:  .*\n)*", re.MULTILINE)
+LINK = re.compile(r"\[([^\]]*)\]\(\.\./([^)#]+)(?:#[^)]*)?\)")
 NAME = re.compile(r"`([^`]+)`")
 WORD = re.compile(r"^[A-Za-z_][\w:]*$")
 
 
-def rows():
-    """The number and the cells of each row of the tables of promises."""
-    inside = False
-    for number, line in enumerate(PAGE.read_text(encoding="utf-8").split("\n"), 1):
-        cells = [cell.strip() for cell in line.strip().strip("|").split(" | ")] if line.startswith("|") else []
-        if cells == HEAD:
-            inside = True
-        elif not cells:
-            inside = False
-        elif inside and not set(line) <= set("|- "):
-            yield number, cells
+def promises():
+    """The number of the line of each promise, its definitions, and its calls."""
+    text = PAGE.read_text(encoding="utf-8")
+    for item in ITEM.finditer(text):
+        last = item[0].rstrip("\n").rpartition("\n  ")[2]
+        calls = next((it.start() for it in LINK.finditer(last) if "/specs/" not in it[2]), 0)
+        yield text.count("\n", 0, item.start()) + 1, last[:calls], last[calls:]
 
 
 def declares_definition(text, name):
@@ -51,9 +47,9 @@ def read(path):
     return file.read_text(encoding="utf-8") if file.is_file() else None
 
 
-def texts_of(cell):
-    """The texts of the files that a cell links."""
-    return [text for path in LINK.findall(cell) if (text := read(path)) is not None]
+def texts_of(part):
+    """The texts of the files that a part links."""
+    return [text for _, path in LINK.findall(part) if (text := read(path)) is not None]
 
 
 def names_of(text):
@@ -61,27 +57,32 @@ def names_of(text):
     return [name.rsplit("::", 1)[-1] for name in NAME.findall(text) if WORD.match(name)]
 
 
-def definitions_missing(cell):
-    """The definitions of a cell that the file of the link before them doesn't declare."""
-    parts = LINK.split(cell)
-    for path, behind in zip(parts[1::2], parts[2::2]):
+def definitions_missing(definitions):
+    """The definitions that the file of their link, or of the link before them, doesn't declare."""
+    parts = LINK.split(definitions)
+    for first, path, behind in zip(parts[1::3], parts[2::3], parts[3::3]):
         text = read(path)
-        for name in names_of(behind):
+        if text is None:
+            yield f"{path} is no file"
+        for name in names_of(first + behind):
             if text is None or not declares_definition(text, name):
                 yield f"`{name}` is no definition of {path}"
 
 
-def calls_missing(definitions, cell):
-    """The names of a cell that no file of it and of the definitions beside it declares."""
-    texts, others = texts_of(cell), texts_of(definitions)
-    for name in names_of(LINK.sub("", cell)) if texts else []:
+def calls_missing(definitions, calls):
+    """The names of the calls that no file of them and of the definitions before them declares."""
+    texts, others = texts_of(calls), texts_of(definitions)
+    files = ", ".join(path for _, path in LINK.findall(calls))
+    if not texts and "signatures" not in calls:
+        yield "no call with a link"
+    for name in names_of(LINK.sub(r"\1", calls)) if texts else []:
         if not any(declares_call(text, name) for text in texts) and not any(declares_definition(text, name) for text in others):
-            yield f"`{name}` is no call or clause of {', '.join(LINK.findall(cell))}"
+            yield f"`{name}` is no call or clause of {files}"
 
 
 def lines_in(table):
     """How many lines that are neither comment, import nor blank the files of definitions have that a table links."""
-    paths = {path for path in LINK.findall(table) if path.endswith(".antt")}
+    paths = {path for _, path in LINK.findall(table) if path.endswith(".antt")}
     lines = [line.strip() for path in paths for line in (read(path) or "").split("\n")]
     return sum(bool(line) and not line.startswith(("--", "use ")) for line in lines)
 
@@ -99,11 +100,12 @@ def wrong_sizes():
 def wrong():
     """What is wrong, a line for each."""
     yield from wrong_sizes()
-    for number, cells in rows():
-        found = [f"{len(cells)} cells"]
-        if len(cells) == len(HEAD):
-            found = [*definitions_missing(cells[1]), *calls_missing(cells[1], cells[2])]
-        yield from (f"{PAGE}:{number}: {it}" for it in found)
+    found = list(promises())
+    if not found:
+        yield f"{PAGE} has no promises"
+    for number, definitions, calls in found:
+        missing = [*definitions_missing(definitions), *calls_missing(definitions, calls)]
+        yield from (f"{PAGE}:{number}: {it}" for it in missing)
 
 
 def main():

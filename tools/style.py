@@ -5,8 +5,8 @@
     python3 tools/style.py --all    prints the numbers of every page: words a sentence, words of the longest, words, its name
 
 Without --all it prints nothing, and its status is 0, where each page keeps the rules. Left out are blocks of code, headings,
-header rows of tables, and targets of links. An item of a list begins a sentence, and so does a cell of a table. Code within a
-line counts as one word.
+header rows of tables, and targets of links. An item of a list begins a sentence, and so does a cell of a table, and what stands
+behind the key of an item: code, or the name of a fault, and a colon. Code within a line counts as one word.
 """
 import pathlib
 import re
@@ -43,7 +43,6 @@ KEPT = [
     "docs/README.md",
     "docs/ROWS.md",
     "docs/SYSTEM.md",
-    "docs/VECTORS.md",
     "docs/WALK.md",
     "docs/WORDS.md",
     "edits/README.md",
@@ -55,6 +54,7 @@ KEPT = [
 ]
 
 ITEM = re.compile(r"\s*(?:[-*+]|\d+[.)])\s+")
+KEY = re.compile(r"((?:(?:`[^`]*`|[A-Z]\d+)(?:, )?)+:)?\s*(.*)", re.DOTALL)
 RULE = re.compile(r"\s*\|[\s:|-]+\|\s*")
 
 
@@ -90,7 +90,9 @@ def pieces_of(text):
         if is_row and not RULE.fullmatch(line) and not RULE.fullmatch(lines[at + 1]):
             yield from re.split(r"(?<!\\)\|", line.strip().strip("|"))
         elif not is_row and not line.startswith("#"):
-            piece.append(ITEM.sub("", line, count=1) if is_item else line.strip())
+            key, said = KEY.fullmatch(ITEM.sub("", line, count=1)).groups() if is_item else (None, line.strip())
+            yield key or ""
+            piece.append(said)
     yield " ".join(piece)
 
 

@@ -26,7 +26,7 @@ def read(path):
 
 def rows():
     """The rows of the document, in their order: name, form, sentence."""
-    found = re.findall(r"^\| `([^`]+)` \| (?:`([^`]+)` )?\| (.*) \|$", read(DOCUMENT), re.MULTILINE)
+    found = re.findall(r"^- `([^`]+)`(?:, `([^`]+)`)?: (.*)$", read(DOCUMENT), re.MULTILINE)
     return [(name, form or name, sentence.replace("`", "")) for name, form, sentence in found]
 
 
@@ -45,7 +45,7 @@ def letters_of(form):
 
 def names_of_formats():
     """The names of the faults, the findings and the kinds in the tables and lists of docs/FORMATS.md."""
-    return re.findall(r"^(?:\| `?|- )([A-Z]\d+)(?: |`|:)", read(FORMATS), re.MULTILINE)
+    return re.findall(r"^- `?([A-Z]\d+)(?: |`|:)", read(FORMATS), re.MULTILINE)
 
 
 def words_of_schema(schema):

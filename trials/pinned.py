@@ -52,7 +52,7 @@ def names():
     """The names of faults, findings and kinds in the formats, and other names."""
     with open(FORMATS, encoding="utf-8") as file:
         named = file.read()
-    codes = set(re.findall(r"^\| ([BMQVHLC]\d+) \|", named, re.M)) | set(re.findall(r"^\| `(N\d+)", named, re.M))
+    codes = set(re.findall(r"^- ([BMQVHLC]\d+):", named, re.M)) | set(re.findall(r"^- `(N\d+)", named, re.M))
     return [*sorted(codes), *(f"K{number}" for number in range(1, 6)), "P9 S3", "X1", "agreed"]
 
 

@@ -1,7 +1,7 @@
 """The vectors of reference/vectors/ that are whole commands and no rows, which the gate tries: the program answers as they say.
 
 Some vector tells each fault and each finding of FORMATS but H8, F1 and F2, which no single input can have. What each file is,
-docs/VECTORS.md says. That the files are what the reference makes is tried too.
+docs/ROWS.md says. That the files are what the reference makes is tried too.
 """
 import hashlib
 import json
@@ -73,7 +73,7 @@ def told_by(vectors):
 def named_in_formats():
     """The names of all faults and findings that docs/FORMATS.md has, and of the kinds of conviction."""
     with open(os.path.join(TOP, "docs", "FORMATS.md"), encoding="utf-8") as kept:
-        names = re.findall(r"^\| `?([A-Z]\d+)\b", kept.read(), re.MULTILINE)
+        names = re.findall(r"^- `?([A-Z]\d+)\b", kept.read(), re.MULTILINE)
     return {*names, "K1", "K2", "K3", "K4"} - UNTOLD
 
 

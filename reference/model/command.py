@@ -76,7 +76,7 @@ class Job:
     generals: Tuple[int, ...] = ()
 
     def sources(self) -> Tuple[str, ...]:
-        """The files that are read, in this order; `-` is standard input (FORMATS.md#the-programs-commands)."""
+        """The files that are read, in this order; `-` is standard input (COMMANDS.md#words)."""
         return () if self.command == "explain" else self.files or ("-",)
 
     def name(self) -> Optional[str]:
@@ -91,7 +91,7 @@ def _number_in(value: str, least: int, most: int) -> Optional[int]:
 
 
 def _number(option: str, value: str) -> int:
-    """The number of an option (FORMATS.md#the-programs-commands)."""
+    """The number of an option (COMMANDS.md#words)."""
     number = _number_in(value, *RANGES[option])
     if number is None:
         raise Refused("--{} takes a number from {} to {}".format(option, *RANGES[option]))
@@ -99,7 +99,7 @@ def _number(option: str, value: str) -> int:
 
 
 def _faulty(text: str) -> Tuple[int, ...]:
-    """Who is held for faulty (FORMATS.md#the-programs-commands)."""
+    """Who is held for faulty (COMMANDS.md#words)."""
     numbers = [] if text == "none" else [_number_in(part, 0, 15) for part in text.split(",")]
     members = sorted(number for number in numbers if number is not None)
     if len(members) != len(numbers) or len(set(members)) != len(members):
@@ -108,7 +108,7 @@ def _faulty(text: str) -> Tuple[int, ...]:
 
 
 def _run_ids(text: str) -> List[bytes]:
-    """The run ids that are asked for (FORMATS.md#the-programs-commands)."""
+    """The run ids that are asked for (COMMANDS.md#words)."""
     parts = text.split(",")
     if len(parts) > MOST_RUNS or not all(re.fullmatch("[0-9a-fA-F]{64}", part) for part in parts):
         raise Refused("--run takes a run id, or up to four with commas between them")
@@ -116,14 +116,14 @@ def _run_ids(text: str) -> List[bytes]:
 
 
 def _is_text(word: str) -> bool:
-    """Whether a word is UTF-8; what is not has surrogates in Python (FORMATS.md#the-programs-commands)."""
+    """Whether a word is UTF-8; what is not has surrogates in Python (COMMANDS.md#words)."""
     return not any("\ud800" <= letter <= "\udfff" for letter in word)
 
 
 def _asks(word: str, letter: str) -> bool:
     """Whether a word asks for help or the version; behind one dash its first letter does.
 
-    FORMATS.md#the-programs-commands.
+    COMMANDS.md#words.
     """
     return word == {"h": "--help", "V": "--version"}[letter] or word.startswith("-" + letter)
 
@@ -164,7 +164,7 @@ class Given:
 
 
 def _read_options(command: str, words: List[str]) -> Given:
-    """What stands behind a command (FORMATS.md#the-programs-commands)."""
+    """What stands behind a command (COMMANDS.md#words)."""
     given = Given()
     left = list(words)
     while left:
@@ -183,7 +183,7 @@ def _read_options(command: str, words: List[str]) -> Given:
 
 
 def _generals(command: str, files: List[str]) -> Tuple[int, ...]:
-    """Of `bundle` the generals of the words G=LOG, of which the list keeps the files (FORMATS.md#the-programs-commands)."""
+    """Of `bundle` the generals of the words G=LOG, of which the list keeps the files (COMMANDS.md#words)."""
     generals: List[int] = []
     for at in range(1, len(files) if command == "bundle" else 0):
         general, equals, files[at] = files[at].partition("=")
@@ -203,7 +203,7 @@ def _check_files(command: str, files: List[str]) -> None:
 
 
 def read_words(words: List[str]) -> Job:
-    """The job that words ask for (FORMATS.md#the-programs-commands)."""
+    """The job that words ask for (COMMANDS.md#words)."""
     if not all(map(_is_text, words)):
         raise Refused("a word is not UTF-8")
     if not words:
@@ -231,7 +231,7 @@ def read_words(words: List[str]) -> Job:
 
 
 def job_asked(words: List[str]) -> Optional[Job]:
-    """The job that words ask for; only for one the input is read (FORMATS.md#the-programs-answers)."""
+    """The job that words ask for; only for one the input is read (COMMANDS.md#exit-status)."""
     try:
         return read_words(words)
     except (Asked, Refused):
@@ -239,14 +239,14 @@ def job_asked(words: List[str]) -> Optional[Job]:
 
 
 def asks_for_job(words: List[str]) -> bool:
-    """Whether words ask for a job (FORMATS.md#the-programs-answers)."""
+    """Whether words ask for a job (COMMANDS.md#exit-status)."""
     return job_asked(words) is not None
 
 
 def _shown(given: bytes, runs: Optional[List[bytes]]) -> Tuple[bool, List[Bundle]]:
     """Whether the input is a campaign, and the bundles of its runs, or the bundle, of the runs that are asked for.
 
-    FORMATS.md#the-programs-answers.
+    COMMANDS.md#exit-status.
     """
     campaign = given.startswith(CAMPAIGN_MARK)
     bundles: List[Bundle] = read_campaign(given) if campaign else [read_bundle(given)]
@@ -255,7 +255,7 @@ def _shown(given: bytes, runs: Optional[List[bytes]]) -> Tuple[bool, List[Bundle
 
 
 def _check_runs(asked: Optional[List[bytes]], shown: List[bytes]) -> None:
-    """R1 for other runs than those that are asked for (FORMATS.md#the-programs-answers)."""
+    """R1 for other runs than those that are asked for (COMMANDS.md#exit-status)."""
     if asked is not None and asked != shown:
         raise Fault("R1")
 
@@ -272,7 +272,7 @@ def _judged(given: bytes, job: Job) -> Tuple[bool, List[Judgement]]:
 
 
 def _counts_as_no(judgement: Judgement, job: Job) -> bool:
-    """Whether a judgement counts as a no (FORMATS.md#the-programs-answers)."""
+    """Whether a judgement counts as a no (COMMANDS.md#exit-status)."""
     bundle = judgement.bundle
     is_doubtful = len(bundle.faulty) > bundle.header.network.traitors or bundle.header.equal_roots()
     return bool(judgement.findings) or ("strict" in job.flags and bool(is_doubtful))
@@ -338,7 +338,7 @@ def draw(given: bytes, job: Job) -> Tuple[int, bytes]:
 
 
 def check_evidence(given: bytes, job: Job) -> Tuple[int, bytes]:
-    """The command evidence (FORMATS.md#the-programs-commands)."""
+    """The command evidence (COMMANDS.md#evidence---run-runid---json)."""
     evidence = read_evidence(given)
     _check_runs(job.runs, [evidence.header.run_id])
     holds = evidence.holds()
@@ -348,7 +348,7 @@ def check_evidence(given: bytes, job: Job) -> Tuple[int, bytes]:
 
 
 def accuse_general(given: bytes, job: Job) -> Tuple[int, bytes]:
-    """The command accuse (FORMATS.md#the-programs-commands)."""
+    """The command accuse (COMMANDS.md#accuse---general-g---run-runid---receipts)."""
     general = job.numbers["general"]
     evidence = _receipts(given, job).evidence(general) if "receipts" in job.flags else accuse(_judged(given, job)[1], general)
     return (1, b"") if evidence is None else (0, evidence.spell())
@@ -426,19 +426,19 @@ def answer_evidence(evidence: bytes, log: bytes, job: Job) -> Tuple[int, bytes]:
 
 
 def plan_line(header: bytes) -> bytes:
-    """The line that says why the plan of a header fails; none if it holds (FORMATS.md#the-programs-answers)."""
+    """The line that says why the plan of a header fails; none if it holds (COMMANDS.md#exit-status)."""
     holds, text = plan_text(planned_header(header, None))
     return b"" if holds else b", ".join([*text.split(b"\n")[:3], b"see sm_tool plan\n"])
 
 
 def told_of(job: Job, output: bytes) -> bytes:
-    """What standard error says of an output (FORMATS.md#the-programs-answers)."""
+    """What standard error says of an output (COMMANDS.md#exit-status)."""
     runs = run_ids_text(job, output) if "print-run" in job.flags else b""
     return runs + (plan_line(output) if job.command == "header" else b"")
 
 
 def run_ids_text(job: Job, output: bytes) -> bytes:
-    """The line with the run ids of a header, a bundle or a campaign (FORMATS.md#the-programs-answers)."""
+    """The line with the run ids of a header, a bundle or a campaign (COMMANDS.md#exit-status)."""
     if job.command == "header":
         headers = [read_header(Cursor(output, "H9"), None)]
     else:
@@ -474,7 +474,7 @@ ESCAPES = {"\t": "\\t", "\r": "\\r", "\n": "\\n", "'": "\\'", '"': '\\"', "\\": 
 
 
 def called(name: str) -> str:
-    """What a file is called in a line (FORMATS.md#the-programs-answers)."""
+    """What a file is called in a line (COMMANDS.md#the-second-line)."""
     if not any(letter < " " or letter == "\x7f" for letter in name):
         return "standard input" if name == "-" else name
     code = lambda letter: f"\\u{{{ord(letter):x}}}" if letter < " " or letter == "\x7f" else letter
@@ -482,7 +482,7 @@ def called(name: str) -> str:
 
 
 def kind_line(name: str, given: bytes, reads: Sequence[str]) -> str:
-    """The line that says of which other kind an input is than those that are read, if it is (FORMATS.md#the-programs-answers)."""
+    """The line that says of which other kind an input is than those that are read, if it is (COMMANDS.md#the-second-line)."""
     kind = json_text.kind_of(given)
     if kind is None or kind in reads:
         return ""
@@ -492,7 +492,7 @@ def kind_line(name: str, given: bytes, reads: Sequence[str]) -> str:
 
 
 def line_behind(job: Job, inputs: Sequence[bytes], words: str) -> str:
-    """The line behind that of a fault, if there is one (FORMATS.md#the-programs-answers)."""
+    """The line behind that of a fault, if there is one (COMMANDS.md#the-second-line)."""
     if job.command not in FILES:
         return kind_line(job.sources()[0], inputs[0], READS["receipts" if "receipts" in job.flags else job.command])
     for begins, (place, kind) in WITHIN[job.command].items():
@@ -505,19 +505,19 @@ def line_behind(job: Job, inputs: Sequence[bytes], words: str) -> str:
 def failed(job: Job, status: int, line: str, behind: str, front: bytes) -> Answer:
     """The answer in the place of an output, by the line of the fault, that behind it, and how the input begins.
 
-    FORMATS.md#the-programs-answers, FORMATS.md#the-fault.
+    COMMANDS.md#exit-status, FORMATS.md#the-fault.
     """
     value = json_text.failure_value(line, job.name(), json_text.kind_of(front), status)
     return status, json_text.line_of(value) if "json" in job.flags else b"", f"{line}\n{behind}".encode("utf-8")
 
 
 def not_read(job: Job, name: str, reason: str, front: bytes = b"") -> Answer:
-    """The answer where an input can't be read, for a reason (FORMATS.md#the-programs-answers)."""
+    """The answer where an input can't be read, for a reason (COMMANDS.md#exit-status)."""
     return failed(job, 5, "read failed", f"cannot read {called(name)}: {reason}\n", front)
 
 
 def answer_job(job: Job, inputs: Sequence[bytes]) -> Answer:
-    """The status, the output and the error of a job on its inputs (FORMATS.md#the-programs-answers)."""
+    """The status, the output and the error of a job on its inputs (COMMANDS.md#exit-status)."""
     for name, given in zip(job.sources(), inputs):
         if len(given) > LONGEST_INPUT:
             return not_read(job, name, f"it has more than {LONGEST_INPUT} bytes", given)
@@ -529,13 +529,13 @@ def answer_job(job: Job, inputs: Sequence[bytes]) -> Answer:
 
 
 def refused_text(refused: Refused, words: List[str]) -> Answer:
-    """The answer to words that ask for no job; without any words the help stands before it (FORMATS.md#the-programs-answers)."""
+    """The answer to words that ask for no job; without any words the help stands before it (COMMANDS.md#exit-status)."""
     line = f"error: {refused}; for more, try '--help'\n".encode("utf-8", "backslashreplace")
     return 2, b"", line if words else text_of_program(ALL_COMMANDS) + line
 
 
 def answer_words(words: List[str], given: bytes) -> Answer:
-    """The status, the output and the error of words on an input (FORMATS.md#the-programs-answers).
+    """The status, the output and the error of words on an input (COMMANDS.md#exit-status).
 
     No file that the words name is read; what is given stands for the bytes of each.
     """

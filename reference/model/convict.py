@@ -128,7 +128,7 @@ def campaign_text(judgements: Sequence[Judgement]) -> str:
 def accuse(judgements: Sequence[Judgement], general: int) -> Optional[Evidence]:
     """The evidence against a general: of the first run that holds any, else across two runs.
 
-    FORMATS.md#the-programs-commands.
+    COMMANDS.md#accuse---general-g---run-runid---receipts.
     """
     if general >= judgements[0].bundle.header.network.generals:
         return None

@@ -214,7 +214,7 @@ def shown_lines(data: bytes) -> Tuple[List[str], bool]:
 
 
 def shown_runs(data: bytes) -> List[bytes]:
-    """The run ids of a file that is whole, run by run (FORMATS.md#the-programs-answers)."""
+    """The run ids of a file that is whole, run by run (COMMANDS.md#exit-status)."""
     if data[:1] in (b"\x01", b"\x02"):
         return [read_header(Cursor(data, "H9"), None).run_id]
     if data[:4] in EVIDENCE_MARKS.values():

@@ -3,10 +3,12 @@
 from __future__ import annotations
 
 import os
+import re
 from dataclasses import dataclass
 from typing import List, Optional
 
 DOCUMENT = os.path.join(os.path.dirname(os.path.abspath(__file__)), "..", "..", "docs", "WORDS.md")
+_ROW = re.compile(r"- `([^`]+)`(?:, `([^`]+)`)?: (.*)")
 
 
 @dataclass
@@ -25,15 +27,15 @@ class Row:
 
 def _row(line: str) -> Row:
     """A row as the document has it; the form is the name where the document has none."""
-    name, form, sentence = (cell.strip().replace("`", "") for cell in line[1:-1].split("|"))
-    return Row(name, form or name, sentence)
+    name, form, sentence = _ROW.fullmatch(line).groups()
+    return Row(name, form or name, sentence.replace("`", ""))
 
 
 def rows() -> List[Row]:
     """The rows of the document, in their order."""
     with open(DOCUMENT, encoding="utf-8") as page:
         lines = page.read().split("\n")
-    return [_row(line) for line in lines if line.startswith("| `")]
+    return [_row(line) for line in lines if line.startswith("- `")]
 
 
 def _is_letter(field: str) -> bool:
