@@ -4,11 +4,10 @@ from __future__ import annotations
 
 import os
 import re
-from dataclasses import dataclass, field, replace
+from dataclasses import dataclass, field
 from typing import Callable, Dict, List, Optional, Sequence, Tuple
 
 from . import json_text, show_json
-from .admitted import Numbers, number_line, numbered_lines, numbered_objects
 from .answering import answer_line
 from .audit import Judgement, judge
 from .bundle import (CAMPAIGN_MARK, Bundle, Exhibit, hold_all, read_bundle, read_campaign, run_bundle,
@@ -27,7 +26,7 @@ from .receipt import RunReceipts, read_receipts, receipt_in, receipts_text
 from .run import play
 from .scenario import read_campaign_text, read_scenario
 from .show import decision_line, equal_root_lines, shown_lines, shown_runs
-from .system import admission_of_files, admitted_header, admitted_runs, system_of_text
+from .system import admission_of_files, admitted_header, read_admission, read_system, system_of_text
 from .words import explain, with_words
 
 LONGEST_INPUT = 1_073_741_824
@@ -35,29 +34,34 @@ ABOUT = b"sm_tool reference: answers from docs/FORMATS.md and docs/PROTOCOL.md; 
 OPTIONS = {
     "decide": (), "run": ("capacity",), "judge": ("capacity", "workers"), "campaign": ("capacity",),
     "audit": ("workers",), "draw": ("workers",), "accuse": ("general",), "evidence": (), "receipt": ("general",),
-    "receipts": (), "show": (), "explain": (), "words": (), "root": (), "header": ("slot", "number"), "plan": ("slot",),
-    "bundle": (), "answer": (), "enroll": ("levels", "workers"), "identity": (), "system": (), "admission": ("number",),
+    "receipts": (), "show": (), "explain": (), "words": (), "root": (), "header": ("slot",), "plan": ("slot",), "bundle": (),
+    "answer": (), "enroll": ("levels", "workers"), "identity": (), "system": ("levels",), "admission": ("number",),
+    "admit": ("number",),
 }
 RANGES = {"capacity": (1, 16), "workers": (1, 16), "general": (0, 15), "slot": (0, 3), "levels": (0, 20),
-          "number": (0, 4_194_303)}
-# Which runs are asked for: by their ids, by an admission, and by the id of its system.
-ASKED = ("run", "admission", "system")
-# Of each command what else it takes: the runs that are asked for, who is held for faulty, and flags.
+          "number": (0, 4_294_967_295)}
+# What the options take whose range is not told.
+TAKEN = {"number": "the number of a run"}
+# Of each command what else it takes: the run ids that are asked for, who is held for faulty, a context, and flags.
 TAKES = {
     "decide": ("json",), "run": ("print-run",), "judge": ("strict", "json"), "campaign": ("print-run",),
-    "audit": (*ASKED, "faulty", "strict", "json"), "draw": (*ASKED, "faulty"), "accuse": (*ASKED, "receipts"),
-    "evidence": (*ASKED, "json"), "receipt": ASKED, "receipts": (*ASKED, "json"), "show": (*ASKED, "json"), "root": ("tall",),
-    "header": ("print-run",), "bundle": ("faulty",), "enroll": ("tall",), "system": ("tall",),
+    "audit": ("run", "faulty", "strict", "json"), "draw": ("run", "faulty"), "accuse": ("run", "receipts"),
+    "evidence": ("run", "json"), "receipt": ("run",), "receipts": ("run", "json"), "show": ("run", "json"), "root": ("tall",),
+    "header": ("print-run",), "bundle": ("faulty",), "enroll": ("tall",), "system": ("context", "turns", "tall", "print-id"),
+    "admission": ("print-id",), "admit": ("print-id",),
 }
-FLAGS = ("strict", "print-run", "json", "tall", "receipts")
+FLAGS = ("strict", "print-run", "json", "tall", "receipts", "turns", "print-id")
 # The commands of several files: how many words for files they take, at least and at most.
 FILES = {"bundle": (1, None), "answer": (2, 2), "admission": (1, None)}
-# Of the commands that take words with the number of a general: their form, and what the first word is.
+# Of the commands that take words with the number of a general: the form of these, and what the first word is.
 LISTED = {"bundle": ("G=LOG", "header"), "admission": ("G=ROOTS", "system")}
 # The commands whose output is bytes.
-WRITE_BYTES = ("run", "campaign", "accuse", "receipt", "header", "bundle", "enroll", "system", "admission")
-# The options that are required.
-REQUIRED = {"accuse": "general", "receipt": "general", "enroll": "levels", "admission": "number"}
+WRITE_BYTES = ("run", "campaign", "accuse", "receipt", "header", "bundle", "enroll", "system", "admission", "admit")
+# The options that a command requires.
+REQUIRED = {"accuse": ("general",), "receipt": ("general",), "enroll": ("levels",), "system": ("levels", "context"),
+            "admission": ("number",), "admit": ("number",)}
+# The commands of identities and systems.
+OF_SYSTEMS = ("enroll", "identity", "system", "admission", "admit")
 MOST_RUNS = 4
 Answer = Tuple[int, bytes, bytes]
 
@@ -82,16 +86,12 @@ class Job:
     files: Tuple[str, ...] = ()
     # Of `bundle` and `admission` the general of each file behind the first.
     generals: Tuple[int, ...] = ()
-    # The file of an admission, the bytes of it once they are read, and the id of the system that it has to be of.
-    admission: Optional[str] = None
-    admission_bytes: bytes = b""
-    system: Optional[bytes] = None
+    # Of `system` what the users agree on.
+    context: bytes = b""
 
     def sources(self) -> Tuple[str, ...]:
         """The files that are read, in this order; `-` is standard input (FORMATS.md#the-programs-commands)."""
-        if self.command == "explain":
-            return ()
-        return (self.files or ("-",)) + (() if self.admission is None else (self.admission,))
+        return () if self.command == "explain" else self.files or ("-",)
 
     def name(self) -> Optional[str]:
         """The name of the file of the one input; standard input has none (FORMATS.md#where-an-answer-comes-from)."""
@@ -100,7 +100,7 @@ class Job:
 
 def _number_in(value: str, least: int, most: int) -> Optional[int]:
     """The decimal number that a text is, if it is in the range."""
-    digits = value.isascii() and value.isdigit() and len(value) <= len(str(most)) and (value[0] != "0" or value == "0")
+    digits = value.isascii() and value.isdigit() and len(value) <= 10 and (value[0] != "0" or value == "0")
     return int(value) if digits and least <= int(value) <= most else None
 
 
@@ -108,7 +108,8 @@ def _number(option: str, value: str) -> int:
     """The number of an option (FORMATS.md#the-programs-commands)."""
     number = _number_in(value, *RANGES[option])
     if number is None:
-        raise Refused("--{} takes a number from {} to {}".format(option, *RANGES[option]))
+        taken = TAKEN.get(option) or "a number from {} to {}".format(*RANGES[option])
+        raise Refused(f"--{option} takes {taken}")
     return number
 
 
@@ -129,10 +130,10 @@ def _run_ids(text: str) -> List[bytes]:
     return [bytes.fromhex(part) for part in parts]
 
 
-def _system_id(text: str) -> bytes:
-    """The id of the system that is asked for (FORMATS.md#the-programs-commands)."""
+def _context(text: str) -> bytes:
+    """What the users of a system agree on (FORMATS.md#the-programs-commands)."""
     if not re.fullmatch("[0-9a-fA-F]{64}", text):
-        raise Refused("--system takes the id of a system")
+        raise Refused("--context takes 64 hexadecimal digits")
     return bytes.fromhex(text)
 
 
@@ -204,7 +205,10 @@ def _read_options(command: str, words: List[str]) -> Given:
 
 
 def _generals(command: str, files: List[str]) -> Tuple[int, ...]:
-    """The generals of words as G=LOG, of which the list keeps the files (FORMATS.md#the-programs-commands)."""
+    """The generals of words as G=LOG, of which the list keeps the files; standard input is at most one of these.
+
+    FORMATS.md#the-programs-commands.
+    """
     generals: List[int] = []
     for at in range(1, len(files) if command in LISTED else 0):
         general, equals, files[at] = files[at].partition("=")
@@ -212,26 +216,18 @@ def _generals(command: str, files: List[str]) -> Tuple[int, ...]:
         if number is None:
             raise Refused("{} takes {} behind the {}, where G is a number from 0 to 15".format(command, *LISTED[command]))
         generals.append(number)
+    if files.count("-") > 1:
+        raise Refused("standard input stands twice")
     return tuple(generals)
 
 
-def _check_files(command: str, given: Given) -> None:
-    """A command that takes several files has as many as it needs, and standard input is at most one of all files."""
+def _check_given(command: str, given: Given) -> None:
+    """No option is missing that a command requires, and no file."""
+    for option in REQUIRED.get(command, ()):
+        if option not in given.options:
+            raise Refused(f"--{option} is missing")
     if len(given.files) < FILES.get(command, (0, 1))[0]:
         raise Refused("a file is missing")
-    if [*(given.files or ["-"]), given.options.get("admission")].count("-") > 1:
-        raise Refused("standard input stands twice")
-
-
-def _check_options(command: str, options: Dict[str, str]) -> None:
-    """No option is missing that a command or another option wants, and none excludes another."""
-    needed = REQUIRED.get(command)
-    if needed is not None and needed not in options:
-        raise Refused(f"--{needed} is missing")
-    if "system" in options and "admission" not in options:
-        raise Refused("--system is of an admission, and --admission is missing")
-    if "slot" in options and "number" in options:
-        raise Refused("--slot is of a text, and --number of an admission")
 
 
 def read_words(words: List[str]) -> Job:
@@ -251,16 +247,14 @@ def read_words(words: List[str]) -> Job:
     if words[0] not in OPTIONS:
         raise Refused("there is no such command")
     given = _read_options(words[0], words[1:])
-    _check_options(words[0], given.options)
-    generals = _generals(words[0], given.files)
-    _check_files(words[0], given)
+    _check_given(words[0], given)
     told = [option for option in OPTIONS[words[0]] if option in given.options]
     numbers = {option: _number(option, given.options[option]) for option in told}
     runs = _run_ids(given.options["run"]) if "run" in given.options else None
     faulty = _faulty(given.options["faulty"]) if "faulty" in given.options else None
-    system = _system_id(given.options["system"]) if "system" in given.options else None
-    return Job(words[0], numbers, runs, faulty, tuple(given.flags), tuple(given.files), generals,
-               given.options.get("admission"), system=system)
+    context = _context(given.options["context"]) if "context" in given.options else b""
+    generals = _generals(words[0], given.files)
+    return Job(words[0], numbers, runs, faulty, tuple(given.flags), tuple(given.files), generals, context)
 
 
 def job_asked(words: List[str]) -> Optional[Job]:
@@ -276,24 +270,20 @@ def asks_for_job(words: List[str]) -> bool:
     return job_asked(words) is not None
 
 
-def _shown(given: bytes) -> Tuple[bool, List[Bundle]]:
-    """Whether the input is a campaign, and the bundles of its runs, or the bundle (FORMATS.md#the-programs-answers)."""
+def _shown(given: bytes, runs: Optional[List[bytes]]) -> Tuple[bool, List[Bundle]]:
+    """Whether the input is a campaign, and the bundles of its runs, or the bundle, of the runs that are asked for.
+
+    FORMATS.md#the-programs-answers.
+    """
     campaign = given.startswith(CAMPAIGN_MARK)
-    return campaign, read_campaign(given) if campaign else [read_bundle(given)]
+    bundles: List[Bundle] = read_campaign(given) if campaign else [read_bundle(given)]
+    _check_runs(runs, [bundle.header.run_id for bundle in bundles])
+    return campaign, bundles
 
 
-def _admitted(job: Job) -> Numbers:
-    """The numbers of the runs that the admission of a job admits, or its fault (FORMATS.md#the-programs-answers)."""
-    return admitted_runs(job.admission_bytes, job.system)
-
-
-def _check_runs(job: Job, shown: List[bytes]) -> None:
-    """R1 for other runs than those that are asked for, or the fault of the admission (FORMATS.md#the-programs-answers)."""
-    if job.admission is not None:
-        numbers = _admitted(job)
-        if not shown or any(run not in numbers for run in shown):
-            raise Fault("R1")
-    if job.runs is not None and job.runs != shown:
+def _check_runs(asked: Optional[List[bytes]], shown: List[bytes]) -> None:
+    """R1 for other runs than those that are asked for (FORMATS.md#the-programs-answers)."""
+    if asked is not None and asked != shown:
         raise Fault("R1")
 
 
@@ -302,8 +292,7 @@ def _judged(given: bytes, job: Job) -> Tuple[bool, List[Judgement]]:
 
     With a list of the faulty they are judged as if it were theirs (FORMATS.md#another-list).
     """
-    campaign, bundles = _shown(given)
-    _check_runs(job, [bundle.header.run_id for bundle in bundles])
+    campaign, bundles = _shown(given, job.runs)
     if job.faulty is not None:
         bundles = hold_all(campaign, bundles, job.faulty)
     return campaign, [judge(bundle) for bundle in bundles]
@@ -378,7 +367,7 @@ def draw(given: bytes, job: Job) -> Tuple[int, bytes]:
 def check_evidence(given: bytes, job: Job) -> Tuple[int, bytes]:
     """The command evidence (FORMATS.md#the-programs-commands)."""
     evidence = read_evidence(given)
-    _check_runs(job, [evidence.header.run_id])
+    _check_runs(job.runs, [evidence.header.run_id])
     holds = evidence.holds()
     text = json_text.line_of(json_text.evidence_value(evidence)) if "json" in job.flags else \
         b"evidence holds\n" if holds else b"evidence fails\n"
@@ -395,14 +384,14 @@ def accuse_general(given: bytes, job: Job) -> Tuple[int, bytes]:
 def _receipts(given: bytes, job: Job) -> RunReceipts:
     """The receipts that the input is, of the run that is asked for (FORMATS.md#receipts)."""
     told = read_receipts(given)
-    _check_runs(job, [told.header.run_id])
+    _check_runs(job.runs, [told.header.run_id])
     return told
 
 
 def write_receipt(given: bytes, job: Job) -> Tuple[int, bytes]:
     """The command receipt (FORMATS.md#receipts)."""
     bundle = read_bundle(given)
-    _check_runs(job, [bundle.header.run_id])
+    _check_runs(job.runs, [bundle.header.run_id])
     receipt = receipt_in(bundle, job.numbers["general"])
     return (1, b"") if receipt is None else (0, receipt.spell(bundle.header))
 
@@ -417,8 +406,8 @@ def tell_receipts(given: bytes, job: Job) -> Tuple[int, bytes]:
 def show(given: bytes, job: Job) -> Tuple[int, bytes]:
     """The command show (FORMATS.md#shown-text, FORMATS.md#the-shown-file). What is not whole is of no run that is asked for."""
     lines, is_whole = shown_lines(given)
-    if job.runs is not None or job.admission is not None:
-        _check_runs(job, shown_runs(given) if is_whole else [])
+    if job.runs is not None:
+        _check_runs(job.runs, shown_runs(given) if is_whole else [])
     if "json" in job.flags:
         return show_json.show(given)
     return 0 if is_whole else 1, "".join(f"{line}\n" for line in lines).encode("ascii")
@@ -441,14 +430,12 @@ def tell_root(given: bytes, job: Job) -> Tuple[int, bytes]:
 
 
 def make_header(given: bytes, job: Job) -> Tuple[int, bytes]:
-    """The command header (FORMATS.md#header-text, FORMATS.md#runs-of-a-system)."""
-    if "number" in job.numbers:
-        return 0, admitted_header(given, job.numbers["number"]).spell()
+    """The command header (FORMATS.md#header-text)."""
     return 0, header_of_text(given, job.numbers.get("slot")).spell()
 
 
 def _version(job: Job) -> int:
-    """The version of which the trees are that a job is about."""
+    """The version of the runs that trees of a job's height serve."""
     return 2 if "tall" in job.flags else 1
 
 
@@ -463,13 +450,18 @@ def tell_identity(given: bytes, job: Job) -> Tuple[int, bytes]:
 
 
 def make_system(given: bytes, job: Job) -> Tuple[int, bytes]:
-    """The command system (FORMATS.md#text-of-a-system)."""
-    return 0, system_of_text(given, _version(job)).spell()
+    """The command system (FORMATS.md#system)."""
+    return 0, system_of_text(given, _version(job), "turns" in job.flags, job.numbers["levels"], job.context).spell()
 
 
 def make_admission(system: bytes, *roots: bytes, job: Job) -> Tuple[int, bytes]:
     """The command admission (FORMATS.md#admission)."""
     return 0, admission_of_files(system, job.numbers["number"], job.generals, roots).spell()
+
+
+def admit_run(given: bytes, job: Job) -> Tuple[int, bytes]:
+    """The command admit (FORMATS.md#admission)."""
+    return 0, admitted_header(given, job.numbers["number"]).spell()
 
 
 def tell_plan(given: bytes, job: Job) -> Tuple[int, bytes]:
@@ -496,8 +488,10 @@ def plan_line(header: bytes) -> bytes:
     return b"" if holds else b", ".join([*text.split(b"\n")[:3], b"see sm_tool plan\n"])
 
 
-def told_of(job: Job, output: bytes) -> bytes:
+def told_of(job: Job, inputs: Sequence[bytes], output: bytes) -> bytes:
     """What standard error says of an output (FORMATS.md#the-programs-answers)."""
+    if "print-id" in job.flags:
+        return system_id_text(job, inputs[0], output)
     runs = run_ids_text(job, output) if "print-run" in job.flags else b""
     return runs + (plan_line(output) if job.command == "header" else b"")
 
@@ -507,8 +501,18 @@ def run_ids_text(job: Job, output: bytes) -> bytes:
     if job.command == "header":
         headers = [read_header(Cursor(output, "H9"), None)]
     else:
-        headers = [bundle.header for bundle in _shown(output)[1]]
+        headers = [bundle.header for bundle in _shown(output, None)[1]]
     return ",".join(header.run_id.hex() for header in headers).encode("ascii") + b"\n"
+
+
+def system_id_text(job: Job, given: bytes, output: bytes) -> bytes:
+    """The line with the id of the system that an output is of; that of `admit` says it of its input.
+
+    FORMATS.md#the-programs-answers.
+    """
+    told = given if job.command == "admit" else output
+    system = read_system(told) if job.command == "system" else read_admission(told).system
+    return system.id.hex().encode("ascii") + b"\n"
 
 
 # What the commands do with their input, and those of several files with their inputs.
@@ -518,6 +522,7 @@ COMMANDS: Dict[str, Callable[..., Tuple[int, bytes]]] = {
     "explain": explain_name, "words": word_text,
     "root": tell_root, "header": make_header, "plan": tell_plan, "bundle": make_bundle, "answer": answer_evidence,
     "enroll": enroll_secret, "identity": tell_identity, "system": make_system, "admission": make_admission,
+    "admit": admit_run,
 }
 
 
@@ -526,18 +531,16 @@ SCENARIOS, JUDGED = ("scenario text",), ("bundle", "campaign")
 READS: Dict[str, Sequence[str]] = {
     "decide": SCENARIOS, "run": SCENARIOS, "judge": SCENARIOS, "header": SCENARIOS, "campaign": ("campaign text",),
     "audit": JUDGED, "draw": JUDGED, "accuse": JUDGED, "evidence": ("evidence",), "receipt": ("bundle",),
-    "receipts": ("receipts",), "root": (), "enroll": (), "identity": ("roots",), "system": SCENARIOS,
+    "receipts": ("receipts",), "root": (),
     "show": ("bundle", "campaign", "evidence", "header"), "plan": ("bundle", "campaign", "header", "scenario text"),
 }
 READERS = {"bundle": "audit", "campaign": "audit", "evidence": "evidence", "header": "show", "receipts": "receipts",
-           "scenario text": "decide", "campaign text": "campaign", "roots": "identity", "system": "admission",
-           "admission": "header"}
-# How a kind begins of which the words are others than of most.
-BEGINS = {"evidence": "evidence does", "receipts": "receipts do", "roots": "roots do", "admission": "an admission does"}
+           "scenario text": "decide", "campaign text": "campaign"}
+# How a kind that is not one thing begins.
+BEGINS = {"evidence": "evidence does", "receipts": "receipts do"}
 # Of the commands of several files: which of these the faults that begin so are of, and of which kind it is. A log is of no kind,
-# and may begin as a header does. Which file of roots it is, the fault says.
-WITHIN = {"bundle": {"B3": (0, "header"), "B8": (0, "header")}, "answer": {"V": (0, "evidence"), "L": (1, "header")},
-          "admission": {"U": (0, "system"), "I": (1, "roots"), "A7": (1, "roots")}}
+# and may begin as a header does.
+WITHIN = {"bundle": {"B3": (0, "header"), "B8": (0, "header")}, "answer": {"V": (0, "evidence"), "L": (1, "header")}}
 ESCAPES = {"\t": "\\t", "\r": "\\r", "\n": "\\n", "'": "\\'", '"': '\\"', "\\": "\\\\"}
 
 
@@ -559,28 +562,16 @@ def kind_line(name: str, given: bytes, reads: Sequence[str]) -> str:
     return f"{called(name)} begins as {begins}{see}\n"
 
 
-def kinds_read(job: Job) -> Sequence[str]:
-    """The kinds of inputs that a job of one input reads."""
-    if "number" in job.numbers:
-        return ("admission",)
-    return READS["receipts" if "receipts" in job.flags else job.command]
-
-
-def file_line(job: Job, inputs: Sequence[bytes], place: int, kind: str) -> str:
-    """The line that names the one of several files that has a fault, which should be of a kind."""
-    name = job.sources()[place]
-    return kind_line(name, inputs[place], (kind,)) or f"the fault is in {name if name == '-' else called(name)}\n"
-
-
-def line_behind(job: Job, inputs: Sequence[bytes], fault: Fault) -> str:
+def line_behind(job: Job, inputs: Sequence[bytes], words: str) -> str:
     """The line behind that of a fault, if there is one (FORMATS.md#the-programs-answers)."""
-    if job.admission is not None and fault.words.startswith("A"):
-        return file_line(job, inputs, len(inputs) - 1, "admission")
+    if job.command in OF_SYSTEMS:
+        return ""
     if job.command not in FILES:
-        return kind_line(job.sources()[0], inputs[0], kinds_read(job))
+        return kind_line(job.sources()[0], inputs[0], READS["receipts" if "receipts" in job.flags else job.command])
     for begins, (place, kind) in WITHIN[job.command].items():
-        if fault.words.startswith(begins):
-            return file_line(job, inputs, fault.place or place, kind)
+        if words.startswith(begins):
+            name = job.sources()[place]
+            return kind_line(name, inputs[place], (kind,)) or f"the fault is in {name if name == '-' else called(name)}\n"
     return ""
 
 
@@ -604,28 +595,10 @@ def answer_job(job: Job, inputs: Sequence[bytes]) -> Answer:
         if len(given) > LONGEST_INPUT:
             return not_read(job, name, f"it has more than {LONGEST_INPUT} bytes", given)
     try:
-        status, output = output_of(job, inputs)
+        status, output = COMMANDS[job.command](*inputs, job=job)
     except Fault as fault:
-        return failed(job, 3, f"fault {fault.words}", line_behind(job, inputs, fault), inputs[0])
-    return status, output, told_of(job, output)
-
-
-def output_of(job: Job, inputs: Sequence[bytes]) -> Tuple[int, bytes]:
-    """The status and the output of a job on its inputs, of which the last is the admission where the job has one."""
-    if job.admission is None:
-        return COMMANDS[job.command](*inputs, job=job)
-    job = replace(job, admission_bytes=inputs[-1])
-    status, output = COMMANDS[job.command](*inputs[:-1], job=job)
-    return status, with_numbers(job, inputs[0], output)
-
-
-def with_numbers(job: Job, given: bytes, output: bytes) -> bytes:
-    """An output with the numbers of the admitted runs that it is about (FORMATS.md#answers-on-admitted-runs)."""
-    if "json" in job.flags:
-        return numbered_objects(output, _admitted(job))
-    if job.command == "evidence":
-        return output + f"{number_line(_admitted(job)[read_evidence(given).header.run_id])}\n".encode("ascii")
-    return numbered_lines(output, _admitted(job)) if job.command in ("audit", "receipts", "show") else output
+        return failed(job, 3, f"fault {fault.words}", line_behind(job, inputs, fault.words), inputs[0])
+    return status, output, told_of(job, inputs, output)
 
 
 def refused_text(refused: Refused, words: List[str]) -> Answer:

@@ -2,21 +2,14 @@
 
 from __future__ import annotations
 
-from typing import Optional
-
 
 class Fault(Exception):
-    """A rule that an input breaks, as the words that name it: `B3 H6`. Of several inputs the place may stand behind them."""
+    """A rule that an input breaks, as the words that name it: `B3 H6`."""
 
     @property
     def words(self) -> str:
         """The words of the fault, without the word `fault` in front."""
         return str(self.args[0])
-
-    @property
-    def place(self) -> Optional[int]:
-        """The place of the input that has the fault, where one of several is told by it."""
-        return self.args[1] if len(self.args) > 1 else None
 
 
 class Cursor:

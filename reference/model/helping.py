@@ -20,6 +20,5 @@ def _texts() -> Dict[str, List[str]]:
 
 
 def text_of_program(name: str) -> bytes:
-    """The text of the program of this name, or that of all commands where the file has none of it."""
-    texts = _texts()
-    return "".join(f"{line}\n" for line in texts.get(name, texts[ALL_COMMANDS])).encode("utf-8")
+    """The text of the program of this name."""
+    return "".join(f"{line}\n" for line in _texts()[name]).encode("utf-8")

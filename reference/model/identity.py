@@ -172,5 +172,5 @@ def enroll(secret: bytes, version: int, levels: int) -> Roots:
 
 
 def identity_text(data: bytes) -> bytes:
-    """The line with the identity over roots (FORMATS.md#roots-of-an-identity)."""
-    return read_roots(data).identity().spell().hex().encode("ascii") + b"\n"
+    """The line with the top of the identity over roots (FORMATS.md#roots-of-an-identity)."""
+    return read_roots(data).identity().top.hex().encode("ascii") + b"\n"

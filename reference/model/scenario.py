@@ -131,9 +131,9 @@ def read_network(lines: Lines, first: Optional[First]) -> Network:
         raise lines.fault("P4 " + inner.words) from None
 
 
-def read_digits(lines: Lines, field: bytes, count: int = 64) -> bytes:
-    """The field HEX of a line, which has so many digits, or P6."""
-    if len(field) != count or any(byte not in HEX_DIGITS for byte in field):
+def read_digits(lines: Lines, field: bytes) -> bytes:
+    """The field HEX of a line `seed` or `root`, or P6."""
+    if len(field) != 64 or any(byte not in HEX_DIGITS for byte in field):
         raise lines.fault("P6")
     return bytes.fromhex(field.decode("ascii"))
 

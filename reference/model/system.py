@@ -4,18 +4,17 @@ from __future__ import annotations
 
 from dataclasses import dataclass
 from functools import cached_property
-from typing import Dict, List, Optional, Sequence, Tuple
+from typing import List, Sequence, Tuple
 
 from . import keys
 from .faults import Cursor, Fault
-from .identity import MOST_LEVELS, Identity, Opening, Roots, read_roots, spell_opening
+from .identity import MOST_LEVELS, Identity, Opening, read_roots, spell_opening
 from .network import Header, Network, read_header
-from .scenario import Lines, read_digits, read_network
+from .prepare import header_of_text
 
 MARK = b"SMS1"
 ADMISSION_MARK = b"SMA1"
 FIRST, TURNS = 0, 1
-PROPOSERS = {b"first": FIRST, b"turns": TURNS}
 # How many runs each set of keys serves, by the version.
 RUNS_OF_SET = {1: 1, 2: 4}
 
@@ -90,7 +89,7 @@ def system_in_front(cursor: Cursor) -> System:
     if header.equal_roots():
         raise Fault("U5")
     proposer = cursor.number(1)
-    if proposer not in PROPOSERS.values():
+    if proposer not in (FIRST, TURNS):
         raise Fault("U6")
     levels = cursor.number(1)
     if levels > MOST_LEVELS:
@@ -107,42 +106,10 @@ def read_system(data: bytes) -> System:
     return system
 
 
-# Texts.
-
-
-def _read_identity(lines: Lines) -> Identity:
-    """A line `identity HEX`, or P6 (FORMATS.md#text-of-a-system)."""
-    spelling = read_digits(lines, lines.word(b"identity", 2)[1], 66)
-    if spelling[0] > MOST_LEVELS:
-        raise lines.fault("P6")
-    return Identity(spelling[0], spelling[1:])
-
-
-def _read_proposer(lines: Lines) -> int:
-    """A line `proposer`, or P2 (FORMATS.md#text-of-a-system)."""
-    word = lines.word(b"proposer", 2)[1]
-    if word not in PROPOSERS:
-        raise lines.fault("P2")
-    return PROPOSERS[word]
-
-
-def system_of_text(text: bytes, version: int) -> System:
-    """The system of a text, in a version, or the text's first fault, or G3 or G2 (FORMATS.md#text-of-a-system)."""
-    lines = Lines(text)
-    network = read_network(lines, None)
-    identities = [_read_identity(lines) for _ in range(network.generals)]
-    proposer = _read_proposer(lines)
-    context = read_digits(lines, lines.word(b"context", 2)[1])
-    lines.word(b"end", 1)
-    lines.ended()
-    levels = identities[0].levels
-    for general, identity in enumerate(identities):
-        if identity.levels != levels:
-            raise Fault(f"G3 general {general}")
-    header = Header(version, 0, network, tuple(identity.top for identity in identities))
-    for first, second in header.equal_roots():
-        raise Fault(f"G2 generals {first} {second}")
-    return System(header, proposer, levels, context)
+def system_of_text(text: bytes, version: int, turns: bool, levels: int, context: bytes) -> System:
+    """The system of the text of a header, whose roots are the tops of identities, or the text's fault (FORMATS.md#system)."""
+    header = header_of_text(text, None if version == 1 else 0)
+    return System(header, TURNS if turns else FIRST, levels, context)
 
 
 # Admissions.
@@ -213,56 +180,33 @@ def read_admission(data: bytes) -> Admission:
     return Admission(system, number, tuple(root for root, _ in shown), tuple(opening for _, opening in shown))
 
 
-def _files_of_roots(files: Sequence[bytes]) -> List[Roots]:
-    """The roots that files are, or the fault of the first that has one, with its place behind that of the system."""
-    read: List[Roots] = []
-    for place, data in enumerate(files, 1):
-        try:
-            read.append(read_roots(data))
-        except Fault as inner:
-            raise Fault(inner.words, place) from None
-    return read
+def _root_shown(system: System, number: int, node: int, named: int, data: bytes) -> Tuple[bytes, Opening]:
+    """The root of a set with its opening by the file of roots that stands in the place of a node, or its first fault."""
+    if named != node:
+        raise Fault("A9")
+    roots = read_roots(data)
+    if roots.version != system.header.version or roots.identity() != system.identity(node):
+        raise Fault(f"A10 node {node}")
+    return roots.roots[number], roots.opening(number)
 
 
 def admission_of_files(data: bytes, run: int, nodes: Sequence[int], files: Sequence[bytes]) -> Admission:
     """The admission of the set of a run, by the system and the roots of each node, or its first fault (FORMATS.md#admission)."""
     system = read_system(data)
-    read = _files_of_roots(files)
-    if sorted(nodes) != list(range(system.nodes)):
-        raise Fault("A9")
     number = system.set_of(run)
     if number >= system.sets:
-        raise Fault("A4")
-    for place, (node, roots) in enumerate(zip(nodes, read), 1):
-        if roots.version != system.header.version or roots.identity() != system.identity(node):
-            raise Fault("A7", place)
-    placed = [roots for _, roots in sorted(zip(nodes, read), key=lambda pair: pair[0])]
-    shown = [(roots.roots[number], roots.opening(number)) for roots in placed]
+        raise Fault("A8")
+    if len(files) != system.nodes:
+        raise Fault("A9")
+    shown = [_root_shown(system, number, node, *named) for node, named in enumerate(zip(nodes, files))]
     return Admission(system, number, tuple(root for root, _ in shown), tuple(opening for _, opening in shown))
 
 
-def whole_admission(data: bytes, system: Optional[bytes]) -> Admission:
-    """The admission that bytes are, which holds and is of the system that is asked for, or its first fault.
-
-    FORMATS.md#admission.
-    """
+def admitted_header(data: bytes, run: int) -> Header:
+    """The header of a run that an admission admits, or its first fault (FORMATS.md#admission)."""
     admission = read_admission(data)
     if not admission.holds():
         raise Fault("A7")
-    if system is not None and admission.system.id != system:
-        raise Fault("A8")
-    return admission
-
-
-def admitted_header(data: bytes, run: int) -> Header:
-    """The header of a run of an admission that holds, or its first fault, or R1 (FORMATS.md#runs-of-a-system)."""
-    admission = whole_admission(data, None)
     if run not in admission.runs():
-        raise Fault("R1")
+        raise Fault("A8")
     return admission.header_of(run)
-
-
-def admitted_runs(data: bytes, system: Optional[bytes]) -> Dict[bytes, int]:
-    """The numbers of the runs that an admission admits, by their run ids, or its first fault (FORMATS.md#admission)."""
-    admission = whole_admission(data, system)
-    return {admission.header_of(run).run_id: run for run in admission.runs()}

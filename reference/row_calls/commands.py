@@ -4,22 +4,22 @@ from __future__ import annotations
 
 from typing import Callable, Dict, List
 
-from model.command import OPTIONS, RANGES, Answer, Asked, Refused, answer_words, asks_for_job, read_words
+from model.command import OPTIONS, Answer, Asked, Refused, answer_words, asks_for_job, read_words
 from model.words import explain
 
 from .reading import Row, output_text
 
 
-# What stands for an option that is left out, where that is not 1. Of one with an empty text nothing is told then.
-DEFAULTS = {"slot": "none", "number": "", "levels": ""}
+# What stands for an option that is left out, where that is not 1.
+DEFAULTS = {"slot": "none"}
 
 
 def refusal_of(refused: Refused) -> str:
     """Which number of refused words is bad, or `words`."""
-    for option in RANGES:
+    for option in ("capacity", "workers", "general", "slot"):
         if str(refused).startswith(f"--{option} takes a number from"):
             return f"refused {option}"
-    for option in ("run", "faulty", "system"):
+    for option in ("run", "faulty"):
         if str(refused).startswith(f"--{option} takes ") and not str(refused).endswith(" takes a value"):
             return f"refused {option}"
     return "refused words"
@@ -36,8 +36,7 @@ def asked_text(row: Row) -> str:
         return refusal_of(refused)
     told: List[str] = [job.command, *(flag for flag in job.flags if flag == "receipts")]
     for option in OPTIONS[job.command]:
-        number = str(job.numbers.get(option, DEFAULTS.get(option, 1)))
-        told += [option, number] if number else []
+        told += [option, str(job.numbers.get(option, DEFAULTS.get(option, 1)))]
     return " ".join(told)
 
 

@@ -1,20 +1,18 @@
-"""Vectors of states, identities, openings, systems and admissions, and of answers on admitted runs."""
+"""Vectors of states, identities, openings, systems and admissions, and of the commands that make these."""
 
 from __future__ import annotations
 
 from typing import Callable, Dict, Iterable, List, Optional, Sequence, Tuple
 
-from model import keys
 from model.faults import Cursor
 from model.identity import Identity, NumberedState, Roots, next_state, read_opening, read_roots, spell_opening
-from model.network import Header, read_header
-from model.system import FIRST, TURNS, Admission, System, admission_of_files, read_system
+from model.network import Header
+from model.system import FIRST, TURNS, Admission, System, read_system
 
-from .parts import Piece, Vector, command, command_of_files, file_bytes, packed, reading, with_byte
+from .parts import Piece, Vector, command, command_of_files, packed, reading, with_byte
 from .small import network_of
-from .texts import LINE, TRIANGLE, ZEROS, scenario_lines, text_of
+from .texts import LINE, scenario_lines, text_of
 
-SPLIT, EVIDENCE, SERIES = "examples/split.bundle", "examples/split.evidence", "examples/series.campaign"
 SYSTEM_ID = "ab" * 32
 
 
@@ -33,12 +31,12 @@ def state_vectors() -> Iterable[Vector]:
                               "next state": next_state(state.state).hex()}}
 
 
-# Identities and openings. No key has these roots: a root is the number of its node and set, 32 times.
+# Identities and openings. No key has these roots: a root is one byte 32 times, which says the node and the set.
 
 
 def roots_of(node: int, levels: int = 1, version: int = 1) -> Roots:
     """The roots of a node."""
-    return Roots(version, tuple(bytes([16 * node + number]) * 32 for number in range(2 ** levels)))
+    return Roots(version, tuple(bytes([128 + 16 * node + number]) * 32 for number in range(2 ** levels)))
 
 
 def roots_fields(data: bytes) -> Vector:
@@ -189,62 +187,51 @@ def system_vectors() -> Iterable[Vector]:
                 yield reading(f"run {run}, version {version}, proposer {proposer}", data, run_reader(run), run=run)
 
 
-# Texts of systems.
+# Systems of texts.
 
 
-def system_lines(nodes: int = 2, edges: Sequence[Tuple[int, int]] = ((0, 1),), proposer: str = "first",
-                 identities: Optional[Sequence[str]] = None, **more: int) -> List[str]:
-    """The lines of the text of a system."""
-    shown = identities or [roots_of(node).identity().spell().hex() for node in range(nodes)]
-    lines = scenario_lines(nodes, edges, **more)[:-2] + [f"identity {digits}" for digits in shown]
-    return lines + [f"proposer {proposer}", f"context {'aB' * 32}", "end"]
+def header_lines(nodes: int = 2, edges: Sequence[Tuple[int, int]] = ((0, 1),), roots: Sequence[str] = (),
+                 **more: int) -> List[str]:
+    """The lines of the text of a header, whose roots are the tops of identities."""
+    shown = roots or [top.hex() for top in tops(nodes, 1, 1)]
+    return scenario_lines(nodes, edges, **more)[:-2] + [f"root {digits}" for digits in shown] + ["end"]
 
 
 def other_line(at: int, *lines: str) -> str:
-    """The text of a system of two nodes with other lines at the number of one, counted from 1."""
-    pair = system_lines()
+    """The text of a header of two nodes with other lines at the number of one, counted from 1."""
+    pair = header_lines()
     pair[at - 1:at] = lines
     return text_of(pair)
 
 
 def text_faults() -> Iterable[Tuple[str, str]]:
     """Texts that make no system."""
-    pair, digits = text_of(system_lines()), "0" * 64
-    one, other = (line.split(" ")[1] for line in system_lines()[6:8])
-    yield from [("no text", ""), ("no line feed at the end", pair[:-1]), ("no line end", other_line(11)),
-                ("an identity too few", other_line(8)),
-                ("an identity too many", other_line(9, f"identity {one}", "proposer first")),
-                ("a root in the place of an identity", other_line(7, f"root {digits}")),
-                ("no proposer", other_line(9)), ("no context", other_line(10)),
-                ("another word for the proposer", other_line(9, "proposer second")),
-                ("the number of a proposer", other_line(9, "proposer 0")), ("two words", other_line(9, "proposer first turns")),
-                ("a number with a leading zero", other_line(1, "generals 02")),
+    pair, digits = text_of(header_lines()), "0" * 64
+    one, other = (line.split(" ")[1] for line in header_lines()[6:8])
+    yield from [("no text", ""), ("no line feed at the end", pair[:-1]), ("no line end", other_line(9)),
+                ("an identity too few", other_line(8)), ("an identity too many", other_line(9, f"root {one}", "end")),
+                ("the word identity", other_line(7, f"identity {one}")), ("a number with a leading zero", other_line(1, "generals 02")),
                 ("a network with an edge twice", other_line(2, "edge 0 1", "edge 1 0")),
-                ("an identity of 64 digits", other_line(8, f"identity {digits}")),
-                ("an identity of 67 digits", other_line(8, f"identity {other}0")),
-                ("an identity with a letter that is no digit", other_line(8, f"identity {other[1:]}g"))]
-    yield from [("an identity of 21 levels", other_line(7, f"identity 15{one[2:]}")),
-                ("a context of 63 digits", other_line(10, f"context {digits[1:]}")),
-                ("bytes behind the line end", pair + "end\n"), ("a tab", pair.replace("identity ", "identity\t", 1)),
-                ("another number of levels", other_line(8, f"identity 02{other[2:]}")),
-                ("another number of levels, and bytes behind the line end", other_line(8, f"identity 02{other[2:]}") + "\n"),
-                ("two equal identities, whose digits are of other cases", other_line(8, f"identity {one.upper()}")),
-                ("one top, with another number of levels", other_line(8, f"identity 02{one[2:]}"))]
-    for about, last in (("three generals, of whom two have the same identity", f"00{digits[1:]}1"),
-                        ("so too, and the third has another number of levels", f"01{digits}")):
-        yield about, text_of(system_lines(3, LINE, identities=[f"00{digits}", f"00{digits}", last]))
+                ("an identity of 66 digits, with its levels", other_line(8, f"root 01{other}")),
+                ("an identity with a letter that is no digit", other_line(8, f"root {other[1:]}g")),
+                ("bytes behind the line end", pair + "end\n"), ("a tab", pair.replace("root ", "root\t", 1)),
+                ("two equal identities, whose digits are of other cases", other_line(8, f"root {one.upper()}")),
+                ("three nodes, of which two have the same identity",
+                 text_of(header_lines(3, LINE, [f"1{digits[1:]}", digits, digits], diameter=2)))]
 
 
 def text_vectors() -> Iterable[Vector]:
-    """Texts of systems that read, and each fault of one."""
-    turns = text_of(system_lines(3, [(2, 1), (1, 0)], "turns", diameter=2))
-    for words in ("system", "system --tall"):
-        yield command("two nodes, of which node 0 proposes", words, text_of(system_lines()))
-        yield command("three nodes, of which each proposes in its turn", words, turns)
-    most = [f"14{'0' * 64}", f"14{'f' * 64}"]
-    yield command("identities of 20 levels", "system", text_of(system_lines(identities=most)))
+    """Texts that make systems, and each fault of one."""
+    pair, line = text_of(header_lines()), text_of(header_lines(3, [(2, 1), (1, 0)], diameter=2))
+    agreed = f"--context {'aB' * 32}"
+    for more in ("", " --turns", " --tall", " --turns --tall"):
+        yield command(f"three nodes in a line,{more or ' without flags'}", f"system --levels 1 {agreed}{more}", line)
+    for levels in (0, 20):
+        yield command(f"two nodes, {levels} levels", f"system {agreed} --levels={levels}", pair)
+    yield command("the context is zeros", f"system --levels 3 --context={'0' * 64}", pair)
     for about, text in text_faults():
-        yield command(about, "system", text)
+        yield command(about, f"system --levels 1 {agreed}", text)
+    yield command("a text with a fault, in version 2", f"system --levels 1 --tall {agreed}", other_line(8))
 
 
 # Admissions.
@@ -281,22 +268,26 @@ def admission_faults() -> Iterable[Tuple[str, bytes]]:
                 ("a byte is left over, and it would not hold", with_byte(one, -1, 0) + b"\0")]
 
 
-def header_vectors() -> Iterable[Vector]:
+def admit_vectors() -> Iterable[Vector]:
     """Headers of runs of admissions, and each fault of an admission."""
     for version, number, runs in ((1, 1, (1,)), (2, 1, (4, 5, 7))):
         for proposer in (FIRST, TURNS):
             for run in runs:
                 admission = admission_of(line_system(version, proposer), number).spell()
-                header: Piece = {"words": ["header", "--number", str(run)], "input": packed(admission)}
-                yield command(f"the header of run {run}, version {version}, proposer {proposer}", "show", [header])
+                about = f"run {run}, version {version}, proposer {proposer}"
+                header: Piece = {"words": ["admit", "--number", str(run)], "input": packed(admission)}
+                yield command(f"the header of {about}", "show", [header])
+                yield command(about, f"admit --number {run}", admission)
+    for number in (0, 1, 7):
+        admission = admission_of(system_of(levels=3, proposer=TURNS), number).spell()
+        yield command(f"run {number} of eight", f"admit --number={number}", admission)
     whole = admission_of(system_of(2), 1).spell()
-    for run in (0, 3, 8, 4_194_303):
-        yield command("a run of another set", f"header --number {run}", whole)
-    yield command("a run of another set, of an admission that does not hold", "header --number 0", with_byte(whole, -1, 0))
+    for run in (0, 3, 8, 4_294_967_295):
+        yield command("a run of another set", f"admit --number {run}", whole)
+    yield command("a run of another set, of an admission that does not hold", "admit --number 0", with_byte(whole, -1, 0))
     for about, data in admission_faults():
-        yield command(about, "header --number 1", data)
-    yield command("the text of a header", "header --number 0", text_of(system_lines()))
-    yield command("an admission, where a text is wanted", "header", whole)
+        yield command(about, "admit --number 1", data)
+    yield command("the text of a header", "admit --number 0", text_of(header_lines()))
 
 
 def made(about: str, words: str, system: bytes, **roots: bytes) -> Vector:
@@ -305,114 +296,48 @@ def made(about: str, words: str, system: bytes, **roots: bytes) -> Vector:
     return command_of_files(about, f"admission {words}", files)
 
 
+def gathered_faults() -> Iterable[Tuple[str, str]]:
+    """Words of `admission` that name other files than those of a system of two nodes, of which C is not whole."""
+    yield from [("a run that the system does not have", "--number 2 SYSTEM 0=A 1=B"),
+                ("the last run that has a number", "--number 4294967295 SYSTEM 0=A 1=B"),
+                ("no such run, and no file", "--number 2 SYSTEM"), ("no file", "--number 0 SYSTEM"),
+                ("node 1 is missing", "--number 0 SYSTEM 0=A"), ("node 1 twice", "--number 0 SYSTEM 0=A 1=B 1=B"),
+                ("a file more, and one that is not whole", "--number 0 SYSTEM 0=C 1=B 2=B"),
+                ("the nodes in another order", "--number 0 SYSTEM 1=B 0=A"),
+                ("node 0 twice", "--number 0 SYSTEM 0=A 0=B"), ("node 2 of two", "--number 0 SYSTEM 0=A 2=B"),
+                ("node 15 of two", "--number 0 SYSTEM 15=A 1=B")]
+    yield from [("the roots of the other", "--number 0 SYSTEM 0=B 1=A"), ("the roots of node 0 twice", "--number 1 SYSTEM 0=A 1=A"),
+                ("roots that are not whole, and node 1 is missing behind them", "--number 0 SYSTEM 0=C 2=B"),
+                ("node 0 is missing, and roots that are not whole", "--number 0 SYSTEM 1=C 1=B"),
+                ("the roots of the other, and roots that are not whole", "--number 0 SYSTEM 0=B 1=C"),
+                ("roots that are not whole, and the roots of the other", "--number 0 SYSTEM 0=C 1=A")]
+
+
 def admission_vectors() -> Iterable[Vector]:
     """Admissions that are made, and each fault of their parts."""
     system, tall = system_of(), system_of(2, TURNS)
     one, two = (roots_of(node).spell() for node in range(2))
     for run in (0, 1):
         yield made(f"the set of run {run}", f"--number {run} SYSTEM 0=A 1=B", system.spell(), A=one, B=two)
-    yield made("the nodes in another order", "SYSTEM 1=B 0=A --number 1", system.spell(), A=one, B=two)
+    yield made("the option behind the files", "SYSTEM 0=A 1=B --number 1", system.spell(), A=one, B=two)
     slots = {name: roots_of(node, version=2).spell() for node, name in enumerate("AB")}
-    for run in (3, 4, 7):
+    for run in (3, 4, 7, 8):
         yield made(f"the set of run {run}, of version 2", f"--number {run} SYSTEM 0=A 1=B", tall.spell(), **slots)
-    cases = [("a run that the system does not have", "--number 2 SYSTEM 0=A 1=B"),
-             ("node 1 is missing", "--number 0 SYSTEM 0=A"), ("no node", "--number 0 SYSTEM"),
-             ("node 1 twice", "--number 0 SYSTEM 0=A 1=B 1=B"), ("node 2 of two", "--number 0 SYSTEM 0=A 1=B 2=B"),
-             ("node 2 of two, and no such run", "--number 9 SYSTEM 0=A 2=B"),
-             ("the roots of the other", "--number 0 SYSTEM 0=A 1=A"),
-             ("the roots of the other, and no such run", "--number 9 SYSTEM 0=A 1=A")]
-    for about, words in cases:
-        yield made(about, words, system.spell(), A=one, B=two)
+    three = {name: roots_of(node).spell() for node, name in enumerate("ABC")}
+    yield made("three nodes in a line", "--number 1 SYSTEM 0=A 1=B 2=C", line_system(1, TURNS).spell(), **three)
+    for about, words in gathered_faults():
+        yield made(about, words, system.spell(), A=one, B=two, C=one[:-1])
     both = "--number 0 SYSTEM 0=A 1=B"
     yield made("roots of version 1, where the system is of version 2", both, system_of(2).spell(), A=one, B=two)
+    yield made("roots of version 2, where the system is of version 1", both, system.spell(), A=one, B=slots["B"])
     yield made("roots of another number of levels", both, system.spell(), A=one, B=roots_of(1, 0).spell())
-    yield made("a fault of the system, and of the roots", both, system.spell()[:-1], A=one, B=b"")
+    other = Roots(1, (roots_of(1).roots[0], bytes(32))).spell()
+    yield made("another root of a set that is not shown", both, system.spell(), A=one, B=other)
+    yield made("a fault of the system, and of the roots", both, system.spell()[:-1], A=b"", B=two)
     yield made("bytes behind the system", both, system.spell() + b"\0", A=one, B=two)
+    yield made("a fault of the system, and no such run", "--number 9 SYSTEM", with_byte(system.spell(), 77, 2))
     for about, data in roots_faults():
-        yield made(f"roots of node 1: {about}", "--number 9 SYSTEM 1=B", system.spell(), B=data)
-
-
-# Answers on admitted runs.
-
-
-def example_admission(version: int, run: int, roots: Sequence[Roots]) -> Admission:
-    """The admission of the set of a run, of three nodes with these roots and of the network of the examples."""
-    header = Header(version, 0, network_of(3, TRIANGLE, 1), tuple(it.identity().top for it in roots))
-    system = System(header, FIRST, roots[0].levels, bytes(32))
-    return admission_of_files(system.spell(), run, range(3), [it.spell() for it in roots])
-
-
-def split_roots() -> List[Roots]:
-    """The roots of three nodes: the second set of each has the root that is in the header of the example."""
-    header = read_header(Cursor(file_bytes(SPLIT)[4:], "H9"), None)
-    return [Roots(1, (bytes([node]) * 32, root)) for node, root in enumerate(header.roots)]
-
-
-def series_roots() -> List[Roots]:
-    """The roots of three nodes, which have one set each: that of the campaign among the examples."""
-    return [Roots(2, (keys.root(keys.general_seed(bytes(32), node), keys.height_of(2)),)) for node in range(3)]
-
-
-def asked(about: str, words: str, admission: bytes, *inputs: Piece) -> Vector:
-    """What a command answers on an input, by an admission."""
-    return command_of_files(about, words, {"ADMISSION": packed(admission), "INPUT": inputs})
-
-
-def split_vectors() -> Iterable[Vector]:
-    """Each command on the run of an example that an admission admits."""
-    admission = example_admission(1, 1, split_roots())
-    shown, by = admission.spell(), f"--admission ADMISSION --system {admission.system.id.hex()} INPUT"
-    split: Piece = {"file": SPLIT}
-    receipt: Piece = {"words": ["receipt", "--general", "1"], "input": [split]}
-    for words in ("audit", "audit --json", "audit --strict --faulty 0", "draw", "accuse --general 0", "accuse --general 1",
-                  "receipt --general 1"):
-        yield asked(f"the run of {SPLIT}", f"{words} {by}", shown, split)
-    for words in ("evidence", "evidence --json", "show"):
-        yield asked(f"the run of {EVIDENCE}", f"{words} {by}", shown, {"file": EVIDENCE})
-    for words in ("receipts", "receipts --json"):
-        yield asked("a receipt of the run", f"{words} {by}", shown, receipt)
-    for words in ("show", "show --json"):
-        yield asked("the header of the run", f"{words} {by}", shown, {"file": SPLIT, "from": 4, "to": 113})
-    yield asked("no system is asked for", "audit --admission ADMISSION INPUT", shown, split)
-
-
-def campaign_vectors() -> Iterable[Vector]:
-    """A campaign whose runs are all of one set."""
-    admission = example_admission(2, 0, series_roots())
-    shown, by = admission.spell(), f"--admission ADMISSION --system {admission.system.id.hex()} INPUT"
-    yield asked(f"the campaign of {SERIES}", f"audit {by}", shown, {"words": ["campaign"], "input": [{"file": SERIES}]})
-    other = text_of(scenario_lines(3, TRIANGLE, traitors=0, seed=ZEROS, slot=0))
-    last = text_of(scenario_lines(3, TRIANGLE, traitors=1, seed=ZEROS, slot=3))
-    runs: Dict[str, Piece] = {"other": {"words": ["run"], "text": other}, "last": {"words": ["run"], "text": last}}
-    yield asked("a run in slot 3", f"audit {by}", shown, runs["last"])
-    yield asked("a run with these roots and another network", f"audit {by}", shown, runs["other"])
-    both: Tuple[Piece, ...] = ("534d433202", runs["other"], runs["last"])
-    yield asked("two runs, of which the second is admitted", f"audit {by}", shown, *both)
-
-
-def refused_vectors() -> Iterable[Vector]:
-    """Runs that an admission does not admit, and admissions that admit none."""
-    admission = example_admission(1, 1, split_roots())
-    whole, first = admission.spell(), example_admission(1, 0, split_roots()).spell()
-    split: Piece = {"file": SPLIT}
-    run = read_header(Cursor(file_bytes(SPLIT)[4:], "H9"), None).run_id.hex()
-    bad, cut = with_byte(whole, -1, 0), whole[:100]
-    own, other = (f"--admission ADMISSION --system {digits} INPUT" for digits in (admission.system.id.hex(), ZEROS))
-    for words in ("audit", "draw", "accuse --general 0", "receipt --general 0", "show"):
-        yield asked("another run", f"{words} {own}", first, split)
-    yield asked("another run than the evidence is of", f"evidence {own}", first, {"file": EVIDENCE})
-    cases = [("another system", f"audit {other}", whole, split), ("it does not hold", f"audit {own}", bad, split),
-             ("it does not hold, and is of another system", f"audit {other}", bad, split),
-             ("another system and another run", f"audit {other}", first, split),
-             ("it ends early", f"audit {own}", cut, split), ("no admission", f"audit {own}", b"SMS1", split),
-             ("a fault of the bundle, and of the admission", f"audit {own}", cut, {"file": SPLIT, "to": 100}),
-             ("what is shown is not whole", f"show {own}", whole, {"file": SPLIT, "to": 100}),
-             ("the run that is asked for", f"audit --run {run} {own}", whole, split),
-             ("another run is asked for", f"audit --run {ZEROS} {own}", whole, split),
-             ("a general of the list that there is not", f"audit --faulty 3 {own}", whole, split),
-             ("so too, of another run", f"audit --faulty 3 {own}", first, split)]
-    for about, words, shown, piece in cases:
-        yield asked(about, words, shown, piece)
+        yield made(f"roots of node 1: {about}", both, system.spell(), A=one, B=data)
 
 
 def identity_case_vectors() -> Iterable[Vector]:
@@ -422,8 +347,5 @@ def identity_case_vectors() -> Iterable[Vector]:
     yield from opening_vectors()
     yield from system_vectors()
     yield from text_vectors()
-    yield from header_vectors()
+    yield from admit_vectors()
     yield from admission_vectors()
-    yield from split_vectors()
-    yield from campaign_vectors()
-    yield from refused_vectors()
