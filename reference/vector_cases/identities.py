@@ -210,7 +210,8 @@ def text_faults() -> Iterable[Tuple[str, str]]:
     one, other = (line.split(" ")[1] for line in header_lines()[6:8])
     yield from [("no text", ""), ("no line feed at the end", pair[:-1]), ("no line end", other_line(9)),
                 ("an identity too few", other_line(8)), ("an identity too many", other_line(9, f"root {one}", "end")),
-                ("the word identity", other_line(7, f"identity {one}")), ("a number with a leading zero", other_line(1, "generals 02")),
+                ("the word identity", other_line(7, f"identity {one}")),
+                ("a number with a leading zero", other_line(1, "generals 02")),
                 ("a network with an edge twice", other_line(2, "edge 0 1", "edge 1 0")),
                 ("an identity of 66 digits, with its levels", other_line(8, f"root 01{other}")),
                 ("an identity with a letter that is no digit", other_line(8, f"root {other[1:]}g")),
