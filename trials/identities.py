@@ -34,23 +34,25 @@ SYSTEM = ["system", "--levels", "0", "--context", CONTEXT]
 # What is said of the values of options that are bad, and words that have one.
 TAKES = {
     "--levels takes a number from 0 to 20": [
-        *(["enroll", f"--levels={it}"] for it in ("21", "", "00", "01", "+1", "99", "256", "x", " 1", "1 ", "\u0661")),
+        *(["enroll", f"--levels={it}"] for it in ("21", "00", "01", "+1", "99", "256", "x", " 1", "1 ", "\u0661")),
         ["enroll", "--levels", "21", "--workers", "0"], ["system", "--levels", "21", "--context", "0"]],
-    "--workers takes a number from 1 to 16": [[*ENROLL, "--workers", it] for it in ("0", "17", "", "01")],
+    "--workers takes a number from 1 to 16": [[*ENROLL, "--workers", it] for it in ("0", "17", "01")],
     "--context takes 64 hexadecimal digits": [
-        [*SYSTEM[:4], it] for it in ("", "0" * 63, "0" * 65, "0" * 66, "g" + "0" * 63, "0" * 63 + "\n", "\u0661" * 64)],
+        [*SYSTEM[:4], it] for it in ("0" * 63, "0" * 65, "0" * 66, "g" + "0" * 63, "0" * 63 + "\n", "\u0661" * 64)],
     "--number takes the number of a run": [
-        *(["admit", f"--number={it}"] for it in ("4294967296", "", "00", "01", "+1", "x", "1.0", "9" * 30, "0x1", "1_0", "\u0661")),
+        *(["admit", f"--number={it}"] for it in ("4294967296", "00", "01", "+1", "x", "1.0", "9" * 30, "0x1", "1_0", "\u0661")),
         ["admission", "--number", "4294967296", "-", "16=-"]],
 }
 # Words that ask for nothing, of which the line is not fixed, and words that ask for help.
 NOTHING = [["enroll"], ["enroll", "--levels"], [*ENROLL, "--levels", "1"], [*ENROLL, "a", "b"], [*ENROLL, "--print-id"],
            [*ENROLL, "--tall=1"], [*ENROLL, "--tall", "--tall"], [*ENROLL, "--json"], ["identity", "a", "b"],
-           ["identity", "--tall"], ["identity", "--levels", "1"], SYSTEM[:3], ["system", *SYSTEM[3:]], [*SYSTEM, "--workers", "1"], [*SYSTEM, "--turns=1"],
-           [*SYSTEM, "--slot", "0"], ["admission"], ["admission", "a"], ["admission", "--number", "0"], ["admit"], ["admit", "a"],
-           [*ADMIT, "a", "b"], [*ADMIT, "--json"], [*ADMIT, "--number", "0"], ["header", "--number", "0"], ["Enroll"], ["admit", "-x"]]
+           ["identity", "--tall"], ["identity", "--levels", "1"], SYSTEM[:3], ["system", *SYSTEM[3:]]]
+NOTHING += [[*SYSTEM, "--workers", "1"], [*SYSTEM, "--turns=1"], [*SYSTEM, "--slot", "0"], ["admission"], ["admission", "a"],
+            ["admission", "--number", "0"], ["admit"], ["admit", "a"], [*ADMIT, "a", "b"], [*ADMIT, "--json"],
+            [*ADMIT, "--number", "0"], ["header", "--number", "0"], ["Enroll"], ["admit", "-x"]]
 BAD_FILES = [["b"], ["16=b"], ["x=b"], ["=b"], ["01=b"], ["-1=b"], ["0=b", "1"]]
 NOTHING += [["admission", "--number", "0", "a", *words] for words in BAD_FILES]
+NOTHING += [["enroll", "--levels="], ["enroll", "--levels", ""], [*SYSTEM[:4], ""], ["admit", "--number="]]
 NOTHING += [["admission", "--number", "0", "-", "0=-"], ["admission", "--number", "0", "a", "0=-", "1=-"]]
 HELPS = [["--help"], ["enroll", "--levels", "21", "-h"], *(["help", it] for it in COMMANDS), *([it, "--help"] for it in COMMANDS)]
 # The faults that have to come.
