@@ -16,7 +16,7 @@ import traceback
 from programs import Hangs, commands_of
 from tally import Tally
 
-SUBJECTS = ["scripts", "worked", "walk", "campaigns", "pictures", "prefixes", "vectors", "second_answers", "differs"]
+SUBJECTS = ["scripts", "worked", "walk", "campaigns", "pictures", "prefixes", "vectors", "second_answers", "identities", "differs"]
 SUBJECTS += ["json_texts", "costs", "refusals", "slips", "calls", "devices", "load", "archive", "worlds", "embed", "nodes"]
 SUBJECTS += ["node_calls", "receipts", "datagrams", "shown", "power", "system", "bindings", "page", "release"]
 LIBRARIES = ["worlds", "embed", "nodes", "node_calls", "receipts", "datagrams", "shown", "power", "system", "bindings", "page", "release"]

@@ -18,6 +18,7 @@ from .evidence import read_evidence
 from .faults import Cursor, Fault
 from .follow import plain_sets
 from .helping import ALL_COMMANDS, VERSION, text_of_program
+from .identity import enroll, identity_text
 from .network import read_header
 from .plan import plan_text, planned_header
 from .prepare import bundle_of_parts, header_of_text, root_text
@@ -25,6 +26,7 @@ from .receipt import RunReceipts, read_receipts, receipt_in, receipts_text
 from .run import play
 from .scenario import read_campaign_text, read_scenario
 from .show import decision_line, equal_root_lines, shown_lines, shown_runs
+from .system import admission_of_files, admitted_header, read_admission, read_system, system_of_text
 from .words import explain, with_words
 
 LONGEST_INPUT = 1_073_741_824
@@ -33,23 +35,33 @@ OPTIONS = {
     "decide": (), "run": ("capacity",), "judge": ("capacity", "workers"), "campaign": ("capacity",),
     "audit": ("workers",), "draw": ("workers",), "accuse": ("general",), "evidence": (), "receipt": ("general",),
     "receipts": (), "show": (), "explain": (), "words": (), "root": (), "header": ("slot",), "plan": ("slot",), "bundle": (),
-    "answer": (),
+    "answer": (), "enroll": ("levels", "workers"), "identity": (), "system": ("levels",), "admission": ("number",),
+    "admit": ("number",),
 }
-RANGES = {"capacity": (1, 16), "workers": (1, 16), "general": (0, 15), "slot": (0, 3)}
-# Of each command what else it takes: the run ids that are asked for, who is held for faulty, and flags.
+RANGES = {"capacity": (1, 16), "workers": (1, 16), "general": (0, 15), "slot": (0, 3), "levels": (0, 20),
+          "number": (0, 4_294_967_295)}
+# What the options take whose range is not told.
+TAKEN = {"number": "the number of a run"}
+# Of each command what else it takes: the run ids that are asked for, who is held for faulty, a context, and flags.
 TAKES = {
     "decide": ("json",), "run": ("print-run",), "judge": ("strict", "json"), "campaign": ("print-run",),
     "audit": ("run", "faulty", "strict", "json"), "draw": ("run", "faulty"), "accuse": ("run", "receipts"),
     "evidence": ("run", "json"), "receipt": ("run",), "receipts": ("run", "json"), "show": ("run", "json"), "root": ("tall",),
-    "header": ("print-run",), "bundle": ("faulty",),
+    "header": ("print-run",), "bundle": ("faulty",), "enroll": ("tall",), "system": ("context", "turns", "tall", "print-id"),
+    "admission": ("print-id",), "admit": ("print-id",),
 }
-FLAGS = ("strict", "print-run", "json", "tall", "receipts")
+FLAGS = ("strict", "print-run", "json", "tall", "receipts", "turns", "print-id")
 # The commands of several files: how many words for files they take, at least and at most.
-FILES = {"bundle": (1, None), "answer": (2, 2)}
+FILES = {"bundle": (1, None), "answer": (2, 2), "admission": (1, None)}
+# Of the commands that take words with the number of a general: the form of these, and what the first word is.
+LISTED = {"bundle": ("G=LOG", "header"), "admission": ("G=ROOTS", "system")}
 # The commands whose output is bytes.
-WRITE_BYTES = ("run", "campaign", "accuse", "receipt", "header", "bundle")
-# The commands of which `--general` is required.
-OF_A_GENERAL = ("accuse", "receipt")
+WRITE_BYTES = ("run", "campaign", "accuse", "receipt", "header", "bundle", "enroll", "system", "admission", "admit")
+# The options that a command requires.
+REQUIRED = {"accuse": ("general",), "receipt": ("general",), "enroll": ("levels",), "system": ("levels", "context"),
+            "admission": ("number",), "admit": ("number",)}
+# The commands of identities and systems.
+OF_SYSTEMS = ("enroll", "identity", "system", "admission", "admit")
 MOST_RUNS = 4
 Answer = Tuple[int, bytes, bytes]
 
@@ -72,8 +84,10 @@ class Job:
     faulty: Optional[Tuple[int, ...]] = None
     flags: Tuple[str, ...] = ()
     files: Tuple[str, ...] = ()
-    # Of `bundle` the general of each file behind the first.
+    # Of `bundle` and `admission` the general of each file behind the first.
     generals: Tuple[int, ...] = ()
+    # Of `system` what the users agree on.
+    context: bytes = b""
 
     def sources(self) -> Tuple[str, ...]:
         """The files that are read, in this order; `-` is standard input (COMMANDS.md#words)."""
@@ -85,8 +99,8 @@ class Job:
 
 
 def _number_in(value: str, least: int, most: int) -> Optional[int]:
-    """The decimal number of at most two digits that a text is, if it is in the range."""
-    digits = value.isascii() and value.isdigit() and len(value) <= 2 and (value[0] != "0" or value == "0")
+    """The decimal number that a text is, if it is in the range."""
+    digits = value.isascii() and value.isdigit() and len(value) <= 10 and (value[0] != "0" or value == "0")
     return int(value) if digits and least <= int(value) <= most else None
 
 
@@ -94,7 +108,8 @@ def _number(option: str, value: str) -> int:
     """The number of an option (COMMANDS.md#words)."""
     number = _number_in(value, *RANGES[option])
     if number is None:
-        raise Refused("--{} takes a number from {} to {}".format(option, *RANGES[option]))
+        taken = TAKEN.get(option) or "a number from {} to {}".format(*RANGES[option])
+        raise Refused(f"--{option} takes {taken}")
     return number
 
 
@@ -113,6 +128,13 @@ def _run_ids(text: str) -> List[bytes]:
     if len(parts) > MOST_RUNS or not all(re.fullmatch("[0-9a-fA-F]{64}", part) for part in parts):
         raise Refused("--run takes a run id, or up to four with commas between them")
     return [bytes.fromhex(part) for part in parts]
+
+
+def _context(text: str) -> bytes:
+    """What the users of a system agree on (COMMANDS.md#words)."""
+    if not re.fullmatch("[0-9a-fA-F]{64}", text):
+        raise Refused("--context takes 64 hexadecimal digits")
+    return bytes.fromhex(text)
 
 
 def _is_text(word: str) -> bool:
@@ -183,23 +205,29 @@ def _read_options(command: str, words: List[str]) -> Given:
 
 
 def _generals(command: str, files: List[str]) -> Tuple[int, ...]:
-    """Of `bundle` the generals of the words G=LOG, of which the list keeps the files (COMMANDS.md#words)."""
+    """The generals of words as G=LOG, of which the list keeps the files; standard input is at most one of these.
+
+    COMMANDS.md#words.
+    """
     generals: List[int] = []
-    for at in range(1, len(files) if command == "bundle" else 0):
+    for at in range(1, len(files) if command in LISTED else 0):
         general, equals, files[at] = files[at].partition("=")
         number = _number_in(general, 0, 15) if equals else None
         if number is None:
-            raise Refused("bundle takes G=LOG behind the header, where G is a number from 0 to 15")
+            raise Refused("{} takes {} behind the {}, where G is a number from 0 to 15".format(command, *LISTED[command]))
         generals.append(number)
+    if files.count("-") > 1:
+        raise Refused("standard input stands twice")
     return tuple(generals)
 
 
-def _check_files(command: str, files: List[str]) -> None:
-    """A command that takes several files has as many as it needs, and standard input is at most one of them."""
-    if len(files) < FILES.get(command, (0, 1))[0]:
+def _check_given(command: str, given: Given) -> None:
+    """No option is missing that a command requires, and no file."""
+    for option in REQUIRED.get(command, ()):
+        if option not in given.options:
+            raise Refused(f"--{option} is missing")
+    if len(given.files) < FILES.get(command, (0, 1))[0]:
         raise Refused("a file is missing")
-    if files.count("-") > 1:
-        raise Refused("standard input stands twice")
 
 
 def read_words(words: List[str]) -> Job:
@@ -219,15 +247,14 @@ def read_words(words: List[str]) -> Job:
     if words[0] not in OPTIONS:
         raise Refused("there is no such command")
     given = _read_options(words[0], words[1:])
-    if words[0] in OF_A_GENERAL and "general" not in given.options:
-        raise Refused("--general is missing")
-    generals = _generals(words[0], given.files)
-    _check_files(words[0], given.files)
+    _check_given(words[0], given)
     told = [option for option in OPTIONS[words[0]] if option in given.options]
     numbers = {option: _number(option, given.options[option]) for option in told}
     runs = _run_ids(given.options["run"]) if "run" in given.options else None
     faulty = _faulty(given.options["faulty"]) if "faulty" in given.options else None
-    return Job(words[0], numbers, runs, faulty, tuple(given.flags), tuple(given.files), generals)
+    context = _context(given.options["context"]) if "context" in given.options else b""
+    generals = _generals(words[0], given.files)
+    return Job(words[0], numbers, runs, faulty, tuple(given.flags), tuple(given.files), generals, context)
 
 
 def job_asked(words: List[str]) -> Optional[Job]:
@@ -338,7 +365,7 @@ def draw(given: bytes, job: Job) -> Tuple[int, bytes]:
 
 
 def check_evidence(given: bytes, job: Job) -> Tuple[int, bytes]:
-    """The command evidence (COMMANDS.md#evidence---run-runid---json)."""
+    """The command evidence (COMMANDS.md#words)."""
     evidence = read_evidence(given)
     _check_runs(job.runs, [evidence.header.run_id])
     holds = evidence.holds()
@@ -348,7 +375,7 @@ def check_evidence(given: bytes, job: Job) -> Tuple[int, bytes]:
 
 
 def accuse_general(given: bytes, job: Job) -> Tuple[int, bytes]:
-    """The command accuse (COMMANDS.md#accuse---general-g---run-runid---receipts)."""
+    """The command accuse (COMMANDS.md#words)."""
     general = job.numbers["general"]
     evidence = _receipts(given, job).evidence(general) if "receipts" in job.flags else accuse(_judged(given, job)[1], general)
     return (1, b"") if evidence is None else (0, evidence.spell())
@@ -399,12 +426,42 @@ def word_text(given: bytes, job: Job) -> Tuple[int, bytes]:
 
 def tell_root(given: bytes, job: Job) -> Tuple[int, bytes]:
     """The command root (FORMATS.md#seed-and-root)."""
-    return 0, root_text(given, 2 if "tall" in job.flags else 1)
+    return 0, root_text(given, _version(job))
 
 
 def make_header(given: bytes, job: Job) -> Tuple[int, bytes]:
     """The command header (FORMATS.md#header-text)."""
     return 0, header_of_text(given, job.numbers.get("slot")).spell()
+
+
+def _version(job: Job) -> int:
+    """The version of the runs that trees of a job's height serve."""
+    return 2 if "tall" in job.flags else 1
+
+
+def enroll_secret(given: bytes, job: Job) -> Tuple[int, bytes]:
+    """The command enroll (FORMATS.md#roots-of-an-identity)."""
+    return 0, enroll(given, _version(job), job.numbers["levels"]).spell()
+
+
+def tell_identity(given: bytes, job: Job) -> Tuple[int, bytes]:
+    """The command identity (FORMATS.md#roots-of-an-identity)."""
+    return 0, identity_text(given)
+
+
+def make_system(given: bytes, job: Job) -> Tuple[int, bytes]:
+    """The command system (FORMATS.md#system)."""
+    return 0, system_of_text(given, _version(job), "turns" in job.flags, job.numbers["levels"], job.context).spell()
+
+
+def make_admission(system: bytes, *roots: bytes, job: Job) -> Tuple[int, bytes]:
+    """The command admission (FORMATS.md#admission)."""
+    return 0, admission_of_files(system, job.numbers["number"], job.generals, roots).spell()
+
+
+def admit_run(given: bytes, job: Job) -> Tuple[int, bytes]:
+    """The command admit (FORMATS.md#admission)."""
+    return 0, admitted_header(given, job.numbers["number"]).spell()
 
 
 def tell_plan(given: bytes, job: Job) -> Tuple[int, bytes]:
@@ -431,8 +488,10 @@ def plan_line(header: bytes) -> bytes:
     return b"" if holds else b", ".join([*text.split(b"\n")[:3], b"see sm_tool plan\n"])
 
 
-def told_of(job: Job, output: bytes) -> bytes:
+def told_of(job: Job, inputs: Sequence[bytes], output: bytes) -> bytes:
     """What standard error says of an output (COMMANDS.md#exit-status)."""
+    if "print-id" in job.flags:
+        return system_id_text(job, inputs[0], output)
     runs = run_ids_text(job, output) if "print-run" in job.flags else b""
     return runs + (plan_line(output) if job.command == "header" else b"")
 
@@ -446,12 +505,24 @@ def run_ids_text(job: Job, output: bytes) -> bytes:
     return ",".join(header.run_id.hex() for header in headers).encode("ascii") + b"\n"
 
 
+def system_id_text(job: Job, given: bytes, output: bytes) -> bytes:
+    """The line with the id of the system that an output is of; that of `admit` says it of its input.
+
+    COMMANDS.md#exit-status.
+    """
+    told = given if job.command == "admit" else output
+    system = read_system(told) if job.command == "system" else read_admission(told).system
+    return system.id.hex().encode("ascii") + b"\n"
+
+
 # What the commands do with their input, and those of several files with their inputs.
 COMMANDS: Dict[str, Callable[..., Tuple[int, bytes]]] = {
     "decide": decide, "run": run, "judge": judge_scenario, "campaign": campaign, "audit": audit, "draw": draw,
     "accuse": accuse_general, "evidence": check_evidence, "receipt": write_receipt, "receipts": tell_receipts, "show": show,
     "explain": explain_name, "words": word_text,
     "root": tell_root, "header": make_header, "plan": tell_plan, "bundle": make_bundle, "answer": answer_evidence,
+    "enroll": enroll_secret, "identity": tell_identity, "system": make_system, "admission": make_admission,
+    "admit": admit_run,
 }
 
 
@@ -474,7 +545,7 @@ ESCAPES = {"\t": "\\t", "\r": "\\r", "\n": "\\n", "'": "\\'", '"': '\\"', "\\": 
 
 
 def called(name: str) -> str:
-    """What a file is called in a line (COMMANDS.md#the-second-line)."""
+    """What a file is called in a line (COMMANDS.md#exit-status)."""
     if not any(letter < " " or letter == "\x7f" for letter in name):
         return "standard input" if name == "-" else name
     code = lambda letter: f"\\u{{{ord(letter):x}}}" if letter < " " or letter == "\x7f" else letter
@@ -482,7 +553,7 @@ def called(name: str) -> str:
 
 
 def kind_line(name: str, given: bytes, reads: Sequence[str]) -> str:
-    """The line that says of which other kind an input is than those that are read, if it is (COMMANDS.md#the-second-line)."""
+    """The line that says of which other kind an input is than those that are read, if it is (COMMANDS.md#exit-status)."""
     kind = json_text.kind_of(given)
     if kind is None or kind in reads:
         return ""
@@ -492,7 +563,9 @@ def kind_line(name: str, given: bytes, reads: Sequence[str]) -> str:
 
 
 def line_behind(job: Job, inputs: Sequence[bytes], words: str) -> str:
-    """The line behind that of a fault, if there is one (COMMANDS.md#the-second-line)."""
+    """The line behind that of a fault, if there is one (COMMANDS.md#exit-status)."""
+    if job.command in OF_SYSTEMS:
+        return ""
     if job.command not in FILES:
         return kind_line(job.sources()[0], inputs[0], READS["receipts" if "receipts" in job.flags else job.command])
     for begins, (place, kind) in WITHIN[job.command].items():
@@ -525,7 +598,7 @@ def answer_job(job: Job, inputs: Sequence[bytes]) -> Answer:
         status, output = COMMANDS[job.command](*inputs, job=job)
     except Fault as fault:
         return failed(job, 3, f"fault {fault.words}", line_behind(job, inputs, fault.words), inputs[0])
-    return status, output, told_of(job, output)
+    return status, output, told_of(job, inputs, output)
 
 
 def refused_text(refused: Refused, words: List[str]) -> Answer:
