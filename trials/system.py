@@ -23,7 +23,7 @@ from walk import TOP, printed_by, shown
 
 DOCUMENT = "SYSTEM.md"
 # The commands that are shown there.
-COMMANDS = {"root", "header", "bundle", "audit", "accuse", "evidence", "show", "answer"}
+COMMANDS = {"root", "plan", "header", "bundle", "audit", "accuse", "evidence", "show", "answer"}
 # The length of a round in the document, and what a process that is late says.
 ROUND, LATE = " 1000 ", "ends with status 3"
 REFERENCE = '#!/bin/sh\nexec {} -B {} "$@"\n'
