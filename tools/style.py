@@ -34,6 +34,7 @@ KEPT = [
     "docs/EMBED.md",
     "docs/FORMATS.md",
     "docs/GLOSSARY.md",
+    "docs/IDENTITIES.md",
     "docs/LIBRARY.md",
     "docs/LLVM.md",
     "docs/NODES.md",

@@ -1,4 +1,4 @@
-"""The runs that documents show: each command in docs/WALK.md and docs/COMMANDS.md prints what stands there.
+"""The runs that documents show: each command in docs/WALK.md, docs/COMMANDS.md and docs/IDENTITIES.md prints what stands there.
 
 In a block of indented lines one that begins with `$ ` is a command, and the lines behind it, up to the next command or the
 end of the block, are what it prints, on standard output and standard error together. The commands of a document are run one
@@ -16,7 +16,7 @@ import tempfile
 from programs import run
 
 TOP = os.path.join(os.path.dirname(os.path.abspath(__file__)), "..")
-DOCUMENTS = ["WALK.md", "COMMANDS.md"]
+DOCUMENTS = ["WALK.md", "COMMANDS.md", "IDENTITIES.md"]
 INDENT, PROMPT = "    ", "    $ "
 
 
