@@ -9,20 +9,9 @@ use crate::roots_fault::RootsFault;
 use gen_ots::sizes::HASH_BYTES;
 use gen_types::{ReadError, check};
 
-/// Returns the head of a file of roots that may be cut anywhere behind the head, and the number of whole roots that are
-/// left. So a run that was stopped goes on from the set with this number. No memory is asked for.
-///
-/// # Errors
-///
-/// Truncated, UnknownMark or TooManyLevels as of a whole file, where Truncated says that the head isn't whole; LeftOver
-/// if there are more bytes than the whole file has.
+/// Reads the head, and counts the whole roots behind it.
 #[tactic(auto, unfolding(crate::specs::CutFiles::cut_file))]
-pub fn roots_in(bytes: &[u8]) -> Result<(RootsHead, usize), ReadError<RootsFault>>
-    // The bytes are the head, that many roots, and the beginning of at most one more, which isn't whole.
-    ensures found { IfOk result (λ x. IsCutFile bytes.now x.0 x.1) }
-    // Of each such file the head and the number are returned.
-    ensures only { (head : Head) (count : ℕ) → IsCutFile bytes.now head count
-        → IsRead result (Ok (head, count)) }
+fn counted_roots(bytes: &[u8]) -> Result<(RootsHead, usize), ReadError<RootsFault>>
     ensures exact { IsRead result (cut_file bytes.now) }
     ensures fault { IfErr result (λ e. e ≢ ReadError.Memory) }
 {
@@ -32,4 +21,23 @@ pub fn roots_in(bytes: &[u8]) -> Result<(RootsHead, usize), ReadError<RootsFault
         RootsFault::LeftOver,
     )?;
     Ok((head, rest.len() / HASH_BYTES))
+}
+
+/// Returns the head of a file of roots that may be cut anywhere behind the head, and the number of whole roots that are
+/// left. So a run that was stopped goes on from the set with this number. No memory is asked for.
+///
+/// # Errors
+///
+/// Truncated, UnknownMark or TooManyLevels as of a whole file, where Truncated says that the head isn't whole; LeftOver
+/// if there are more bytes than the whole file has.
+pub fn roots_in(bytes: &[u8]) -> Result<(RootsHead, usize), ReadError<RootsFault>>
+    // The bytes are the head, that many roots, and the beginning of at most one more, which isn't whole.
+    ensures found { IfOk result (λ x. IsCutFile bytes.now x.0 x.1) }
+    // Of each such file the head and the number are returned.
+    ensures only { (head : Head) (count : ℕ) → IsCutFile bytes.now head count
+        → IsRead result (Ok (head, count)) }
+    ensures exact { IsRead result (cut_file bytes.now) }
+    ensures fault { IfErr result (λ e. e ≢ ReadError.Memory) }
+{
+    counted_roots(bytes)
 }

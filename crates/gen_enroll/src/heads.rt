@@ -1,5 +1,5 @@
 //! The heads of files of roots.
-ghost use Rattle.std.specs.Prelude.{◌≡◌, ◌≢◌, ◌++◌, ◌∷◌, [], ◌≤◌, IfErr, IfOk};
+ghost use Rattle.std.specs.Prelude.{◌≡◌, ◌≢◌, ◌++◌, ◌∷◌, [], ◌≤◌, ◌^◌, IfErr, IfOk};
 ghost use Rattle.std.specs.Int.{w32, to_be_bytes};
 ghost use Rattle.gen_types.specs.Spelled.{IsField, IsRead};
 ghost use Rattle.gen_enroll.specs.RootFiles.{head_spelling, root_mark};
@@ -23,6 +23,14 @@ pub struct RootsHead {
     pub height: TreeHeight,
     /// The number of levels: there are 2 to the power of this many sets. In a file it is at most 20.
     pub levels: u8,
+}
+
+/// Returns the number of sets of an identity with so many levels: 2 to the power of the levels.
+pub(crate) fn sets_on(levels: u8) -> u32
+    requires { levels ≤ MOST_LEVELS }
+    ensures { result ≡ 2 ^ levels }
+{
+    1 << levels
 }
 
 /// Returns the mark before roots of trees of this height.

@@ -4,6 +4,7 @@ ghost use Rattle.gen_identity.specs.Sets.{set_roots, identity_over, identity_of_
 ghost use Rattle.gen_enroll.specs.RootFiles.{file_of_secret};
 ghost use Rattle.gen_enroll.specs.Loops.{AreShares, bound_of, share_of};
 
+use crate::heads::sets_on;
 use crate::root_files::Roots;
 use gen_identity::State;
 use gen_identity::sizes::MOST_LEVELS;
@@ -188,6 +189,6 @@ pub fn roots_of_secret<R: Threads + Sync>(
         identity_over file.roots file.levels ≡ identity_of_secret secret.now height levels) }
 {
     let state = State::new(*secret);
-    let roots = roots_of_sets(rt, alloc, &state, height, 1 << levels, workers)?;
+    let roots = roots_of_sets(rt, alloc, &state, height, sets_on(levels), workers)?;
     Ok(Roots::new(height, levels, roots))
 }

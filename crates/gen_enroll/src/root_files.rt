@@ -3,7 +3,7 @@ ghost use Rattle.std.specs.Prelude.{◌≡◌, ◌≤◌, ◌<◌, ◌+◌, ◌+
 ghost use Rattle.std.specs.Prelude.{vec_len, vec_capacity};
 ghost use Rattle.gen_identity.specs.Openings.{siblings_of, Opens};
 ghost use Rattle.gen_identity.specs.Sets.{identity_over};
-ghost use Rattle.gen_enroll.specs.RootFiles.{IsRootFile, file_spelling, head_of, roots_spelling};
+ghost use Rattle.gen_enroll.specs.RootFiles.{AreWide, IsRootFile, file_spelling, head_of, roots_spelling};
 
 use crate::heads::RootsHead;
 use crate::sizes::HEAD_BYTES;
@@ -36,6 +36,11 @@ impl Model for Roots {
     }) };
 }
 
+/// States that roots have 32 bytes each.
+fn roots_are_wide(roots: &[[u8; 32]])
+    ensures { AreWide roots.now }
+{}
+
 impl Roots {
     /// Returns the file of these roots, whose trees have this height. Their number must be 2 to the power of the levels.
     pub fn new(height: TreeHeight, levels: u8, roots: Vec<[u8; 32]>) -> Roots
@@ -43,6 +48,7 @@ impl Roots {
         requires count { length roots.items ≡ 2 ^ levels }
         ensures { result ≡ record { height = height; levels = levels; roots = roots.items } }
     {
+        roots_are_wide(roots.as_slice());
         let head = RootsHead { height, levels };
         Roots { head, roots }
     }
@@ -122,8 +128,7 @@ pub fn append_roots(roots: &[[u8; 32]], out: &mut Vec<u8>) -> Result<(), AllocEr
     ensures len { OnOk result (vec_len out.new ≡ vec_len out.old + length (roots_spelling roots.now)) }
     ensures capacity { vec_capacity out.old ≤ vec_capacity out.new }
 {
-    let count = HASH_BYTES.saturating_mul(roots.len());
-    out.reserve(count)?;
+    out.reserve(HASH_BYTES * roots.len())?;
     'roots: for root in roots {
         out.extend_from_slice(root).unwrap();
     }

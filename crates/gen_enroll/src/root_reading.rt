@@ -6,7 +6,7 @@ ghost use Rattle.gen_types.specs.Bytes.{many_at};
 ghost use Rattle.gen_enroll.specs.RootFiles.{RootFile, IsRootFile, file_spelling};
 ghost use Rattle.gen_enroll.specs.RootReading.{root_at, whole_file};
 
-use crate::heads::head_in_front;
+use crate::heads::{head_in_front, sets_on};
 use crate::root_files::Roots;
 use crate::roots_fault::RootsFault;
 use gen_ots::sizes::HASH_BYTES;
@@ -19,7 +19,8 @@ fn roots_in_front(
     count: u32,
     bytes: &[u8],
 ) -> Result<(Vec<[u8; 32]>, &[u8]), ReadError<RootsFault>>
-    ensures { Gives (λ x. (x.0.items, x.1.now)) result (many_at root_at count bytes.now) }
+    ensures exact { Gives (λ x. (x.0.items, x.1.now)) result (many_at root_at count bytes.now) }
+    ensures count { IfOk result (λ x. length x.0.items ≡ count) }
 {
     let mut roots = Vec::with_capacity(alloc, bytes.len() / HASH_BYTES)?;
     let mut rest = bytes;
@@ -39,7 +40,7 @@ fn roots_alone(alloc: Global, bytes: &[u8]) -> Result<Roots, ReadError<RootsFaul
     ensures { IsRead result (whole_file bytes.now) }
 {
     let (head, rest) = head_in_front(bytes)?;
-    let (roots, rest) = roots_in_front(alloc, 1 << head.levels, rest)?;
+    let (roots, rest) = roots_in_front(alloc, sets_on(head.levels), rest)?;
     check(rest.is_empty(), RootsFault::LeftOver)?;
     Ok(Roots::new(head.height, head.levels, roots))
 }
