@@ -69,3 +69,20 @@ unfolding set_roots
 length-set_roots state height zero = refl
 length-set_roots state height (suc n) =
     length_push (set_roots state height n) (ring_root (seed_after state n) height) ∙ ap (λ (k : ℕ). k + 1) (length-set_roots state height n) ∙ add-one n
+
+-- what roots are after those of one worker more
+pub grown_by_share : (state : List ℕ) (height : TreeHeight) (count workers worker : ℕ) (start old new : List (List ℕ)) → 0 < workers → old ≡ start ++ set_roots state height (bound_of count workers worker) → new ≡ old ++ share_of state height count workers worker
+    → new ≡ start ++ set_roots state height (bound_of count workers (worker + 1))
+grown_by_share state height count workers worker start old new some before more =
+    let front = set_roots state height (bound_of count workers worker) in
+    let own = share_of state height count workers worker in
+    let joined : front ++ own ≡ set_roots state height (bound_of count workers (worker + 1))
+    = roots_between state height (bound_of count workers worker) (bound_of count workers (worker + 1)) (next_bound count workers worker some) in
+    rw (more, before, append_assoc start front own, joined) refl
+
+-- what roots are after those of one turn more
+pub grown_by_turn : (state next : List ℕ) (height : TreeHeight) (done turn whole : ℕ) (old new : List (List ℕ)) → done + turn ≡ whole → next ≡ state_after state done → old ≡ set_roots state height done → new ≡ old ++ set_roots next height turn
+    → new ≡ set_roots state height whole
+grown_by_turn state next height done turn whole old new up from before more =
+    let joined = roots_join state height done turn in
+    rw (more, before, from, ← joined, up) refl

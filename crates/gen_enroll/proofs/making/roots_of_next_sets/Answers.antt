@@ -1,4 +1,4 @@
-use Rattle.std.proofs.Common.{◌≡◌, ℕ, ◌+◌, List, [], ◌∷◌, ◌++◌, sym, ap, ◌∙◌, arith}
+use Rattle.std.proofs.Common.{◌≡◌, ℕ, List, sym, ap, ◌∙◌, arith}
 use Rattle.gen_tree.specs.Rings.{ring_root}
 use Rattle.gen_identity.specs.States.{next_state, set_seed, seed_after}
 use Rattle.gen_identity.specs.Sets.{set_roots}

@@ -1,4 +1,4 @@
-use Rattle.std.proofs.Common.{◌≡◌, List, ℕ, length, ap, ◌∙◌}
+use Rattle.std.proofs.Common.{List, ℕ, length, ap, ◌∙◌}
 use Rattle.gen_enroll.proofs.Pieces.{length-set_roots}
 use Rattle.gen_enroll.proofs.making.roots_of_secret.Goals as goal
 

@@ -1,8 +1,8 @@
-use Rattle.std.proofs.Common.{◌≡◌, ◌≤◌, ℕ, ◌+◌, ◌-◌, List, ◌++◌, sym, ap, ◌∙◌, arith}
+use Rattle.std.proofs.Common.{◌≡◌, ◌≤◌, ℕ, ◌+◌, ◌-◌, List, sym, ap, ◌∙◌, arith}
 use Rattle.gen_identity.specs.States.{state_after}
 use Rattle.gen_identity.specs.Sets.{set_roots}
 use Rattle.gen_identity.proofs.Steps.{state_after-none, no_roots, steps_add}
-use Rattle.gen_enroll.proofs.Pieces.{roots_join}
+use Rattle.gen_enroll.proofs.Pieces.{grown_by_turn}
 use Rattle.gen_enroll.proofs.making.roots_of_sets.Goals as goal
 
 pub turns-init : goal.turns-init
@@ -26,18 +26,13 @@ turns-preserved g c =
     let some : turn ≤ c.turns.left = omega (arith, c.min-turn.ensures) in
     let up : done + turn ≡ c.args.count - (c.turns.left - turn) = omega (arith, some, before.within) in
     let from : c.as_bytes-in-turns.result.now ≡ state_after state done = c.as_bytes-in-turns.ensures ∙ before.state in
-    let more = c.in_ok-append_turn.ensures in
     record {
       within = omega (arith, before.within);
       state = c.advance-next.ensures ∙ ap (λ (s : List ℕ). state_after s turn) before.state ∙ steps_add state done turn ∙ ap (state_after state) up;
-      roots = more
-          ∙ ap (λ (s : List ℕ). c.turns.roots.items ++ set_roots s height turn) from
-          ∙ ap (λ (t : List (List ℕ)). t ++ set_roots (state_after state done) height turn) before.roots
-          ∙ sym (roots_join state height done turn)
-          ∙ ap (set_roots state height) up;
+      roots = grown_by_turn state c.as_bytes-in-turns.result.now height done turn (c.args.count - (c.turns.left - turn)) c.turns.roots.items c.append_turn.new.roots.items up from before.roots c.in_ok-append_turn.ensures;
     }
 
 pub returns : goal.returns
 returns g c =
     let all : c.args.count - c.turns.left ≡ c.args.count = omega (arith, c.turns-test.false) in
-    c.turns.invariant.roots ∙ ap (set_roots c.args.state.now c.args.height) all
+    rw all at c.turns.invariant.roots
