@@ -1,0 +1,4 @@
+mod AdmissionLaws
+mod Apart
+mod SystemLaws
+mod Turning

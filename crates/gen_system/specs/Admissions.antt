@@ -22,7 +22,7 @@ pub record SetAdmission : Type 0 where
 pub record IsOpenedRoot (levels : ℕ) (o : OpenedRoot) : Type 0 where
   pub root : length o.root ≡ root_length
   pub opening : IsOpening o.opening
-  pub levels : length o.opening ≡ levels
+  pub one_each : length o.opening ≡ levels
 
 -- what every admission keeps: the set is one of the system's, there is one root for each node, and each
 -- opening has one sibling for each level

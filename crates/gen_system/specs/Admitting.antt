@@ -34,4 +34,4 @@ pub record Admits (id : List ℕ) (run : ℕ) (header : RunHeader) (a : SetAdmis
   pub system : system_id_of a.system ≡ id
   pub set : a.set ≡ set_of_run a.system.header.version run
   pub holds : Holds a
-  pub header : header ≡ header_of_run a run
+  pub of_run : header ≡ header_of_run a run

@@ -1,5 +1,5 @@
 //! Reads admissions.
-ghost use Rattle.std.specs.Prelude.{◌≡◌, length, IfOk, Ok};
+ghost use Rattle.std.specs.Prelude.{◌≡◌, ◌≤◌, length, IfOk, Ok};
 ghost use Rattle.gen_types.specs.Bytes.{many_at};
 ghost use Rattle.gen_types.specs.Reading.{Gives};
 ghost use Rattle.gen_types.specs.Spelled.{IsRead, IsField, IsReadFrom, StandsInFront, Spells, counted};
@@ -45,10 +45,7 @@ fn opening_fault(fault: OpeningFault) -> AdmissionFault
 
 /// Reads an opening that must have this many siblings.
 #[tactic(auto, unfolding(crate::specs::AdmissionReading::opening_with))]
-fn read_opening_of(
-    levels: u8,
-    bytes: &[u8],
-) -> Result<(Opening, &[u8]), ReadError<AdmissionFault>>
+fn read_opening_of(levels: u8, bytes: &[u8]) -> Result<(Opening, &[u8]), ReadError<AdmissionFault>>
     ensures { IsField result (reading.opening_with levels bytes.now) }
 {
     let (count, _) = u8_at(bytes, AdmissionFault::Truncated)?;
@@ -62,10 +59,7 @@ fn read_opening_of(
 
 /// Reads a root and its opening.
 #[tactic(auto, unfolding(crate::specs::AdmissionReading::opened_at))]
-fn read_opened(
-    levels: u8,
-    bytes: &[u8],
-) -> Result<(OpenedRoot, &[u8]), ReadError<AdmissionFault>>
+fn read_opened(levels: u8, bytes: &[u8]) -> Result<(OpenedRoot, &[u8]), ReadError<AdmissionFault>>
     ensures { IsField result (reading.opened_at levels bytes.now) }
 {
     let (front, rest) = bytes_at(bytes, ROOT_BYTES, AdmissionFault::Truncated)?;

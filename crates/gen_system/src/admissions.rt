@@ -1,5 +1,5 @@
 //! Admissions.
-ghost use Rattle.std.specs.Prelude.{◌≡◌, ◌<◌, length};
+ghost use Rattle.std.specs.Prelude.{◌≡◌, true, length};
 ghost use Rattle.std.specs.List.{AllByRecursion};
 ghost use Rattle.gen_system.specs.Admissions as admissions;
 ghost use Rattle.gen_system.specs.Admissions.{IsAdmission, IsOpenedRoot, admission_with};

@@ -26,7 +26,7 @@ impl Admission {
         requires { node < self.now.system.header.network.generals }
         ensures { IsTrue result
             ↔ Opens (identity_in self.now.system node) self.now.set
-                (root_in self.now node) (opening_in self.now node) }
+            (root_in self.now node) (opening_in self.now node) }
     {
         let one = &self.opened()[usize::from(node.get())];
         opens(

@@ -1,6 +1,7 @@
 //! The networks of the runs of a system.
 ghost use Rattle.std.specs.Prelude.{◌≡◌, IfOk};
 ghost use Rattle.gen_net.specs.Network.{IsNetwork};
+ghost use Rattle.gen_system.specs.declared.proposers.Proposer.TheVariants.{Turns};
 ghost use Rattle.gen_system.specs.RunNets.{IsNetOfRun, network_of_run, turned};
 
 use crate::proposers::Proposer;

@@ -27,10 +27,7 @@ fn header_fault(fault: HeaderFault) -> SystemFault
 }
 
 /// Reads a header. Returns it, and the bytes after it.
-fn read_any_header(
-    alloc: Global,
-    bytes: &[u8],
-) -> Result<(Header, &[u8]), ReadError<SystemFault>>
+fn read_any_header(alloc: Global, bytes: &[u8]) -> Result<(Header, &[u8]), ReadError<SystemFault>>
     ensures { IsField result (reading.any_header_at bytes.now) }
 {
     match read_header(alloc, bytes) {

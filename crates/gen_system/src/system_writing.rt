@@ -1,5 +1,5 @@
 //! Writes systems and names them.
-ghost use Rattle.std.specs.Prelude.{◌≡◌, IfOk};
+ghost use Rattle.std.specs.Prelude.{◌≡◌, ◌++◌, IfOk, OnOk};
 ghost use Rattle.gen_system.specs.Systems.{id_text, system_id_of, system_spelling};
 
 use crate::system_reading::SYSTEM_MARK;

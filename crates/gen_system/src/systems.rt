@@ -1,5 +1,5 @@
 //! Systems.
-ghost use Rattle.std.specs.Prelude.{◌≡◌, ◌<◌, not};
+ghost use Rattle.std.specs.Prelude.{◌≡◌, ◌<◌};
 ghost use Rattle.gen_types.specs.Spelled.{IsRead};
 ghost use Rattle.gen_system.specs.Runs.{run_count_of};
 ghost use Rattle.gen_system.specs.Systems.{IsSystem, fit_header, has_equal, identity_in, system_with};
