@@ -166,12 +166,21 @@ pub fn read_admission(
     Ok((admission, bytes.len() - rest.len()))
 }
 
+/// Reads the admission that all the bytes are.
+#[tactic(auto, unfolding(crate::specs::AdmissionReading::whole_admission))]
+fn read_whole(alloc: Global, bytes: &[u8]) -> Result<Admission, ReadError<AdmissionFault>>
+    ensures { IsRead result (whole_admission bytes.now) }
+{
+    let (admission, rest) = admission_in_front(alloc, bytes)?;
+    check(rest.is_empty(), AdmissionFault::LeftOver)?;
+    Ok(admission)
+}
+
 /// Returns the admission that all the bytes are.
 ///
 /// # Errors
 ///
 /// Those of `read_admission`; then LeftOver if bytes follow the admission.
-#[tactic(auto, unfolding(crate::specs::AdmissionReading::whole_admission))]
 pub fn admission_alone(alloc: Global, bytes: &[u8]) -> Result<Admission, ReadError<AdmissionFault>>
     // The bytes are the spelling of the admission that is read.
     ensures found { IfOk result (Spells IsAdmission admission_spelling bytes.now) }
@@ -181,7 +190,5 @@ pub fn admission_alone(alloc: Global, bytes: &[u8]) -> Result<Admission, ReadErr
     // The answer, and so the fault, is that of `whole_admission`.
     ensures exact { IsRead result (whole_admission bytes.now) }
 {
-    let (admission, rest) = admission_in_front(alloc, bytes)?;
-    check(rest.is_empty(), AdmissionFault::LeftOver)?;
-    Ok(admission)
+    read_whole(alloc, bytes)
 }

@@ -1,5 +1,6 @@
 //! The runs of a system by their numbers.
-ghost use Rattle.std.specs.Prelude.{◌≡◌, ◌<◌};
+ghost use Rattle.std.specs.Prelude.{◌≡◌, ◌<◌, ◌≤◌};
+ghost use Rattle.gen_system.specs.declared.proposers.Proposer.TheVariants.{Turns};
 ghost use Rattle.gen_system.specs.Runs as by_number;
 
 use crate::proposers::Proposer;
@@ -30,6 +31,30 @@ pub fn slot_of_run(version: Version, run: u32) -> u8
     }
 }
 
+/// Returns the node that a general is where n nodes propose in turns.
+pub fn node_in_turn(n: u8, run: u32, general: u8) -> u8
+    requires below { general < n }
+    requires few { n ≤ 16 }
+    ensures value { result ≡ by_number.node_by Turns n run general }
+    ensures below { result < n }
+    ensures back { by_number.general_by Turns n run result ≡ general }
+{
+    let first = (run % u32::from(n)) as u8;
+    (first + general) % n
+}
+
+/// Returns the general that a node is where n nodes propose in turns.
+pub fn general_in_turn(n: u8, run: u32, node: u8) -> u8
+    requires below { node < n }
+    requires few { n ≤ 16 }
+    ensures value { result ≡ by_number.general_by Turns n run node }
+    ensures below { result < n }
+    ensures back { by_number.node_by Turns n run result ≡ node }
+{
+    let first = (run % u32::from(n)) as u8;
+    (node + (n - first)) % n
+}
+
 impl System {
     /// Returns the node that a general of the run with this number is. The general must be one of the network's.
     pub fn node_of(&self, run: u32, general: GeneralNo) -> GeneralNo
@@ -42,8 +67,7 @@ impl System {
             Proposer::First => general,
             Proposer::Turns => {
                 let n = self.header.net().generals();
-                let first = (run % u32::from(n)) as u8;
-                GeneralNo::at((first + general.get()) % n)
+                GeneralNo::at(node_in_turn(n, run, general.get()))
             }
         }
     }
@@ -59,8 +83,7 @@ impl System {
             Proposer::First => node,
             Proposer::Turns => {
                 let n = self.header.net().generals();
-                let first = (run % u32::from(n)) as u8;
-                GeneralNo::at((node.get() + (n - first)) % n)
+                GeneralNo::at(general_in_turn(n, run, node.get()))
             }
         }
     }

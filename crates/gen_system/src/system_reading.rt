@@ -120,12 +120,21 @@ pub fn read_system(alloc: Global, bytes: &[u8]) -> Result<(System, usize), ReadE
     Ok((system, bytes.len() - rest.len()))
 }
 
+/// Reads the system that all the bytes are.
+#[tactic(auto, unfolding(crate::specs::SystemReading::whole_system))]
+fn read_whole(alloc: Global, bytes: &[u8]) -> Result<System, ReadError<SystemFault>>
+    ensures { IsRead result (whole_system bytes.now) }
+{
+    let (system, rest) = system_in_front(alloc, bytes)?;
+    check(rest.is_empty(), SystemFault::LeftOver)?;
+    Ok(system)
+}
+
 /// Returns the system that all the bytes are.
 ///
 /// # Errors
 ///
 /// Those of `read_system`; then LeftOver if bytes follow the system.
-#[tactic(auto, unfolding(crate::specs::SystemReading::whole_system))]
 pub fn system_alone(alloc: Global, bytes: &[u8]) -> Result<System, ReadError<SystemFault>>
     // The bytes are the spelling of the system that is read.
     ensures found { IfOk result (Spells IsSystem system_spelling bytes.now) }
@@ -135,7 +144,5 @@ pub fn system_alone(alloc: Global, bytes: &[u8]) -> Result<System, ReadError<Sys
     // The answer, and so the fault, is that of `whole_system`.
     ensures exact { IsRead result (whole_system bytes.now) }
 {
-    let (system, rest) = system_in_front(alloc, bytes)?;
-    check(rest.is_empty(), SystemFault::LeftOver)?;
-    Ok(system)
+    read_whole(alloc, bytes)
 }

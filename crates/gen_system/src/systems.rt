@@ -1,5 +1,8 @@
 //! Systems.
 ghost use Rattle.std.specs.Prelude.{◌≡◌, ◌<◌};
+ghost use Rattle.std.specs.Bool.{nat_eq};
+ghost use Rattle.std.specs.Cmp.Lexicographic.{pointwise};
+ghost use Rattle.std.specs.List.{list_any};
 ghost use Rattle.gen_types.specs.Spelled.{IsRead};
 ghost use Rattle.gen_system.specs.Runs.{run_count_of};
 ghost use Rattle.gen_system.specs.Systems.{IsSystem, fit_header, has_equal, identity_in, system_with};
@@ -48,13 +51,20 @@ impl Model for System {
     }) };
 }
 
+/// Returns whether one of the tops is this one.
+fn stands_in(top: &[u8; 32], tops: &[[u8; 32]]) -> bool
+    ensures { result ≡ list_any (λ other. pointwise nat_eq other top.now) tops.now }
+{
+    tops.iter().any(|other| other == top)
+}
+
 /// Returns whether some top of an identity comes twice.
 fn repeats(tops: &[[u8; 32]]) -> bool
     ensures { result ≡ has_equal tops.now }
 {
     let mut rest = tops;
     while let [top, others @ ..] = rest {
-        if others.iter().any(|other| other == top) {
+        if stands_in(top, others) {
             return true;
         }
         rest = others;
@@ -79,7 +89,7 @@ impl System {
     ///
     /// OtherSlot if the slot of the header is not 0, else EqualIdentities if two of its roots are equal, else
     /// TooManyLevels if there are more than 20 levels. The header is dropped then.
-    #[tactic(auto, unfolding(crate::specs::Systems::system_with))]
+    #[tactic(auto, unfolding(crate::specs::Systems::system_with, crate::specs::Systems::fit_header))]
     pub fn new(
         header: Header,
         proposer: Proposer,
