@@ -1,11 +1,17 @@
 -- The network of a run is one, and has the edges between the nodes of its generals.
-use Rattle.std.proofs.Common.{◌≡◌, ◌<◌, ◌≤◌, ◌+◌, ◌↔◌, ℕ, true, leb, Ok, refl, arith}
+use Rattle.std.proofs.Common.{◌≡◌, ◌<◌, ◌≤◌, ◌+◌, ◌↔◌, ℕ, true, leb, List, get_or, length, Contains, Result, Ok, Err, refl, sym, ap, subst, ◌∙◌, arith}
+use Rattle.std.specs.Prelude.{IfOk}
+use Rattle.std.proofs.lemmas.List.Elements.{Contains-get_or}
 use Rattle.std.proofs.lemmas.Bool.{le-leb}
 use Rattle.std.proofs.lemmas.Nat.{mod_below}
 use Rattle.gen_types.specs.declared.choices.ChoiceKind.{ChoiceKind}
 use Rattle.gen_types.specs.declared.choices.ChoiceKind.TheVariants.{Only, Median}
 use Rattle.gen_types.specs.ChoiceOf.{choice_number, choice_numbered}
-use Rattle.gen_types.specs.Reading.{◌>>=◌, check}
+use Rattle.gen_types.specs.declared.reading.ReadError.{ReadError}
+use Rattle.gen_types.specs.declared.reading.ReadError.TheVariants as errors
+use Rattle.gen_types.specs.Reading.{◌>>=◌, check, Fails}
+use Rattle.gen_types.specs.Spelled.{IsRead}
+use Rattle.gen_net.specs.declared.fault.HeaderFault.{HeaderFault}
 use Rattle.gen_net.specs.declared.numbers.NetNumbers.{NetNumbers}
 use Rattle.gen_net.specs.Network.{Network, AreNeighbours, IsNetwork}
 use Rattle.gen_net.specs.NetworkOf.{is_within, known_choice, network_of, ranges_of}
@@ -98,3 +104,28 @@ net_of_run s ok run = record {
   choice = same_choice s.proposer s.header.network run;
   edges = λ a b la lb. edges_lead s.proposer s.header.network ok run a b la lb;
 }
+
+pub moved_by : (s : RunSystem) (net made : Network) (run : ℕ) → IsNetwork s.header.network → net ≡ s.header.network → s.proposer ≡ Turns → made ≡ network_by Turns net run → IsNetOfRun s run made
+moved_by s net made run ok net_is turns e =
+    let same : network_by Turns net run ≡ network_of_run s run
+    = ap (λ (n : Network). network_by Turns n run) net_is ∙ ap (λ (p : Proposer). network_by p s.header.network run) (sym turns) in
+    subst (λ (n : Network). IsNetOfRun s run n) (sym (e ∙ same)) (net_of_run s ok run)
+
+-- ---- what calls return
+
+pub edge_below : (net : Network) → IsNetwork net → (es : List (ℕ × ℕ)) → es ≡ net.edges → (i : ℕ) (d : ℕ × ℕ) → i < length es → ((get_or es i d).0 < net.generals) × ((get_or es i d).1 < net.generals)
+edge_below net ok es is i d lt =
+    let stands = subst (λ (xs : List (ℕ × ℕ)). Contains xs (get_or es i d)) is (Contains-get_or es i d lt) in
+    let inside = ok.edges.inside (get_or es i d).0 (get_or es i d).1 stands in
+    (omega (arith, inside.0, inside.1), inside.1)
+
+-- a reading that gives a network has no fault
+pub never : (r : Result Network (ReadError HeaderFault)) (e : ReadError HeaderFault) (f : HeaderFault) (read : Result Network HeaderFault) (net : Network) → IsRead r read → read ≡ Ok net → r ≡ Err e → e ≡ errors.Fault f → ⊥
+never r e f read net given is failed fault =
+    let told : Fails e read = subst (λ (x : Result Network (ReadError HeaderFault)). IsRead x read) failed given in
+    let first : Fails (errors.Fault f) read = subst (λ (x : ReadError HeaderFault). Fails x read) fault told in
+    cc
+
+pub if_ok : {X E : Type 0} (r : Result X E) (P Q : X → Type 0) → ((x : X) → P x → Q x) → IfOk r P → IfOk r Q
+if_ok (Ok x) P Q f p = f x p
+if_ok (Err e) P Q f p = tt
