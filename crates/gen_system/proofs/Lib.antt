@@ -1,0 +1,7 @@
+mod AdmissionLaws
+mod Apart
+mod Moved
+mod RunNetLaws
+mod SystemLaws
+mod Turning
+mod Whole

@@ -1,0 +1,110 @@
+//! What admissions show: the headers of the runs of their sets.
+ghost use Rattle.std.specs.Prelude.{◌≡◌, ◌↔◌, ◌<◌, IsTrue, IfOk};
+ghost use Rattle.gen_net.specs.Header.{IsHeader};
+ghost use Rattle.gen_identity.specs.Openings.{Opens};
+ghost use Rattle.gen_system.specs.Admissions.{root_in, opening_in};
+ghost use Rattle.gen_system.specs.Admitting.{Admits, Holds, header_of_run, roots_of_run};
+ghost use Rattle.gen_system.specs.Systems.{identity_in};
+
+use crate::admissions::Admission;
+use crate::runs::{set_of_run, slot_of_run};
+use gen_identity::opens;
+use gen_net::{Header, Version};
+use gen_types::GeneralNo;
+use std::alloc::{AllocError, Global};
+
+/// Returns whether two ids of systems are equal.
+fn same_id(left: &[u8; 32], right: &[u8; 32]) -> bool
+    ensures { IsTrue result ↔ (left.now ≡ right.now) }
+{
+    left == right
+}
+
+impl Admission {
+    /// Returns whether the opening of a node shows its root as the one of the set under the node's identity.
+    fn holds_of(&self, node: GeneralNo) -> bool
+        requires { node < self.now.system.header.network.generals }
+        ensures { IsTrue result
+            ↔ Opens (identity_in self.now.system node) self.now.set
+            (root_in self.now node) (opening_in self.now node) }
+    {
+        let one = &self.opened()[usize::from(node.get())];
+        opens(
+            &self.system.identity(node),
+            self.set,
+            &one.root,
+            &one.opening,
+        )
+    }
+
+    /// Returns whether the opening of each node shows its root as the one of the set under the node's identity.
+    pub fn holds(&self) -> bool
+        ensures { IsTrue result ↔ Holds self.now }
+    {
+        'nodes: for node in 0..self.system.header().net().generals() {
+            if !self.holds_of(GeneralNo::at(node)) {
+                return false;
+            }
+        }
+        true
+    }
+
+    /// Returns the roots of the generals of a run, each that of its node.
+    fn roots_in_run(&self, alloc: Global, run: u32) -> Result<Vec<[u8; 32]>, AllocError>
+        ensures { IfOk result (λ roots. roots.items ≡ roots_of_run self.now run) }
+    {
+        let opened = self.opened();
+        let mut roots = Vec::new(alloc);
+        'generals: for general in 0..self.system.header().net().generals() {
+            let node = self.system.node_of(run, GeneralNo::at(general));
+            roots.push(opened[usize::from(node.get())].root)?;
+        }
+        Ok(roots)
+    }
+}
+
+/// Returns the header of the run with this number: its version is the system's, with the run's slot in version 2, its
+/// network is that of the run, and the root of each general is that of its node. The run is of the admission's set, or
+/// the header is none of the system's.
+///
+/// # Errors
+///
+/// `AllocError` if memory is refused.
+pub fn header_of(alloc: Global, admission: &Admission, run: u32) -> Result<Header, AllocError>
+    ensures value { IfOk result (λ header. header ≡ header_of_run admission.now run) }
+    ensures header { IfOk result IsHeader }
+{
+    let system = &admission.system;
+    let net = system.net_of(alloc, run)?;
+    let roots = admission.roots_in_run(alloc, run)?;
+    let version = system.header().version();
+    let made = match version {
+        Version::One => Header::new(net, roots),
+        Version::Two { .. } => Header::new_in_slot(net, slot_of_run(version, run), roots),
+    };
+    match made {
+        Ok(header) => Ok(header),
+        Err(_) => unreachable!(),
+    }
+}
+
+/// Returns whether an admission admits a header as that of the run with this number, in the system with this id: it is
+/// of that system and of the run's set, it holds, and the header is that of the run.
+///
+/// # Errors
+///
+/// `AllocError` if memory is refused.
+pub fn admits(
+    alloc: Global,
+    id: &[u8; 32],
+    run: u32,
+    header: &Header,
+    admission: &Admission,
+) -> Result<bool, AllocError>
+    ensures { IfOk result (λ yes_it_does. IsTrue yes_it_does ↔ Admits id.now run header.now admission.now) }
+{
+    let of_system = same_id(&admission.system.id(alloc)?, id);
+    let of_set = admission.set == set_of_run(admission.system.header().version(), run);
+    let of_run = *header == header_of(alloc, admission, run)?;
+    Ok(of_system && of_set && of_run && admission.holds())
+}
