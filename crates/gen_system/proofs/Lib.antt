@@ -1,5 +1,6 @@
 mod AdmissionLaws
 mod Apart
+mod Growing
 mod Moved
 mod RunNetLaws
 mod SystemLaws

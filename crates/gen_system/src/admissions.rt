@@ -1,5 +1,5 @@
 //! Admissions.
-ghost use Rattle.std.specs.Prelude.{◌≡◌, true, length};
+ghost use Rattle.std.specs.Prelude.{◌≡◌, ◌==◌, true, length};
 ghost use Rattle.std.specs.List.{AllByRecursion};
 ghost use Rattle.gen_system.specs.Admissions as admissions;
 ghost use Rattle.gen_system.specs.Admissions.{IsAdmission, IsOpenedRoot, admission_with};
@@ -31,13 +31,21 @@ impl Model for Admission {
         (record { system = a.system; set = a.set; opened = a.opened.items }) };
 }
 
+/// Returns whether an opening has this many siblings.
+fn has_levels(levels: u8, one: &OpenedRoot) -> bool
+    ensures value { result ≡ (length one.now.opening == levels) }
+    ensures opened { result ≡ true → IsOpenedRoot levels one.now }
+{
+    one.opening.siblings().len() == usize::from(levels)
+}
+
 /// Returns whether each opening has this many siblings.
 fn have_levels(levels: u8, opened: &[OpenedRoot]) -> bool
     ensures value { result ≡ admissions.have_levels levels opened.now }
     ensures opened { result ≡ true → AllByRecursion (IsOpenedRoot levels) opened.now }
 {
     'roots: for one in opened {
-        if one.opening.siblings().len() != usize::from(levels) {
+        if !has_levels(levels, one) {
             return false;
         }
     }

@@ -1,10 +1,7 @@
 //! What admissions show: the headers of the runs of their sets.
 ghost use Rattle.std.specs.Prelude.{◌≡◌, ◌↔◌, ◌<◌, IsTrue, IfOk};
 ghost use Rattle.gen_net.specs.Header.{IsHeader};
-ghost use Rattle.gen_identity.specs.Openings.{Opens};
-ghost use Rattle.gen_system.specs.Admissions.{root_in, opening_in};
-ghost use Rattle.gen_system.specs.Admitting.{Admits, Holds, header_of_run, roots_of_run};
-ghost use Rattle.gen_system.specs.Systems.{identity_in};
+ghost use Rattle.gen_system.specs.Admitting.{Admits, Holds, HoldsOf, header_of_run, roots_of_run};
 
 use crate::admissions::Admission;
 use crate::runs::{set_of_run, slot_of_run};
@@ -24,9 +21,7 @@ impl Admission {
     /// Returns whether the opening of a node shows its root as the one of the set under the node's identity.
     fn holds_of(&self, node: GeneralNo) -> bool
         requires { node < self.now.system.header.network.generals }
-        ensures { IsTrue result
-            ↔ Opens (identity_in self.now.system node) self.now.set
-            (root_in self.now node) (opening_in self.now node) }
+        ensures { IsTrue result ↔ HoldsOf self.now node }
     {
         let one = &self.opened()[usize::from(node.get())];
         opens(
@@ -53,10 +48,11 @@ impl Admission {
     fn roots_in_run(&self, alloc: Global, run: u32) -> Result<Vec<[u8; 32]>, AllocError>
         ensures { IfOk result (λ roots. roots.items ≡ roots_of_run self.now run) }
     {
+        let system = self.system();
         let opened = self.opened();
         let mut roots = Vec::new(alloc);
-        'generals: for general in 0..self.system.header().net().generals() {
-            let node = self.system.node_of(run, GeneralNo::at(general));
+        'generals: for general in 0..system.header().net().generals() {
+            let node = system.node_of(run, GeneralNo::at(general));
             roots.push(opened[usize::from(node.get())].root)?;
         }
         Ok(roots)
@@ -101,7 +97,7 @@ pub fn admits(
     header: &Header,
     admission: &Admission,
 ) -> Result<bool, AllocError>
-    ensures { IfOk result (λ yes_it_does. IsTrue yes_it_does ↔ Admits id.now run header.now admission.now) }
+    ensures { IfOk result (λ said. IsTrue said ↔ Admits id.now run header.now admission.now) }
 {
     let of_system = same_id(&admission.system.id(alloc)?, id);
     let of_set = admission.set == set_of_run(admission.system.header().version(), run);
