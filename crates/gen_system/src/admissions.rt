@@ -1,12 +1,13 @@
 //! Admissions.
-ghost use Rattle.std.specs.Prelude.{◌≡◌, ◌==◌, true, length};
+ghost use Rattle.std.specs.Prelude.{◌≡◌, ◌<◌, ◌==◌, true, length};
 ghost use Rattle.std.specs.List.{AllByRecursion};
 ghost use Rattle.gen_system.specs.Admissions as admissions;
-ghost use Rattle.gen_system.specs.Admissions.{IsAdmission, IsOpenedRoot, admission_with};
+ghost use Rattle.gen_system.specs.Admissions.{IsAdmission, IsOpenedRoot, admission_with, opening_in, root_in};
 
 use crate::admission_fault::AdmissionFault;
 use crate::opened_roots::OpenedRoot;
 use crate::systems::System;
+use gen_types::GeneralNo;
 use std::marker::Model;
 
 /// What admits the runs of one set of keys of a system: for each node the root of its set, with the opening. It has the
@@ -104,5 +105,14 @@ impl Admission {
         ensures admission { IsAdmission self.now }
     {
         self.opened.as_slice()
+    }
+
+    /// Returns the root of a node's set with its opening. The node must be one of the network's.
+    pub fn opened_of(&self, node: GeneralNo) -> &OpenedRoot
+        requires { node < self.now.system.header.network.generals }
+        ensures root { result.now.root ≡ root_in self.now node }
+        ensures opening { result.now.opening ≡ opening_in self.now node }
+    {
+        &self.opened()[usize::from(node.get())]
     }
 }

@@ -1,17 +1,25 @@
 //! What admissions show: the headers of the runs of their sets.
 ghost use Rattle.std.specs.Prelude.{◌≡◌, ◌↔◌, ◌<◌, IsTrue, IfOk};
-ghost use Rattle.gen_net.specs.Header.{IsHeader};
+ghost use Rattle.gen_net.specs.Header.{header_with};
+ghost use Rattle.gen_system.specs.Runs.{version_of_run};
 ghost use Rattle.gen_system.specs.Admitting.{Admits, Holds, HoldsOf, header_of_run, roots_of_run};
 
 use crate::admissions::Admission;
 use crate::runs::{set_of_run, slot_of_run};
 use gen_identity::opens;
-use gen_net::{Header, Version};
+use gen_net::{Header, HeaderFault, Net, Version};
 use gen_types::GeneralNo;
 use std::alloc::{AllocError, Global};
 
 /// Returns whether two ids of systems are equal.
 fn same_id(left: &[u8; 32], right: &[u8; 32]) -> bool
+    ensures { IsTrue result ↔ (left.now ≡ right.now) }
+{
+    left == right
+}
+
+/// Returns whether two headers are equal.
+fn same_header(left: &Header, right: &Header) -> bool
     ensures { IsTrue result ↔ (left.now ≡ right.now) }
 {
     left == right
@@ -23,7 +31,7 @@ impl Admission {
         requires { node < self.now.system.header.network.generals }
         ensures { IsTrue result ↔ HoldsOf self.now node }
     {
-        let one = &self.opened()[usize::from(node.get())];
+        let one = self.opened_of(node);
         opens(
             &self.system.identity(node),
             self.set,
@@ -59,6 +67,21 @@ impl Admission {
     }
 }
 
+/// Returns the header of a run of a system that has headers of this version.
+fn header_in_run(
+    version: Version,
+    run: u32,
+    net: Net,
+    roots: Vec<[u8; 32]>,
+) -> Result<Header, HeaderFault>
+    ensures { result ≡ header_with (version_of_run version run) net roots.items }
+{
+    match version {
+        Version::One => Header::new(net, roots),
+        Version::Two { .. } => Header::new_in_slot(net, slot_of_run(version, run), roots),
+    }
+}
+
 /// Returns the header of the run with this number: its version is the system's, with the run's slot in version 2, its
 /// network is that of the run, and the root of each general is that of its node. The run is of the admission's set, or
 /// the header is none of the system's.
@@ -67,18 +90,12 @@ impl Admission {
 ///
 /// `AllocError` if memory is refused.
 pub fn header_of(alloc: Global, admission: &Admission, run: u32) -> Result<Header, AllocError>
-    ensures value { IfOk result (λ header. header ≡ header_of_run admission.now run) }
-    ensures header { IfOk result IsHeader }
+    ensures { IfOk result (λ header. header ≡ header_of_run admission.now run) }
 {
-    let system = &admission.system;
+    let system = admission.system();
     let net = system.net_of(alloc, run)?;
     let roots = admission.roots_in_run(alloc, run)?;
-    let version = system.header().version();
-    let made = match version {
-        Version::One => Header::new(net, roots),
-        Version::Two { .. } => Header::new_in_slot(net, slot_of_run(version, run), roots),
-    };
-    match made {
+    match header_in_run(system.header().version(), run, net, roots) {
         Ok(header) => Ok(header),
         Err(_) => unreachable!(),
     }
@@ -99,8 +116,15 @@ pub fn admits(
 ) -> Result<bool, AllocError>
     ensures { IfOk result (λ said. IsTrue said ↔ Admits id.now run header.now admission.now) }
 {
-    let of_system = same_id(&admission.system.id(alloc)?, id);
-    let of_set = admission.set == set_of_run(admission.system.header().version(), run);
-    let of_run = *header == header_of(alloc, admission, run)?;
-    Ok(of_system && of_set && of_run && admission.holds())
+    let system = admission.system();
+    if !same_id(&system.id(alloc)?, id) {
+        return Ok(false);
+    }
+    if admission.set() != set_of_run(system.header().version(), run) {
+        return Ok(false);
+    }
+    if !same_header(header, &header_of(alloc, admission, run)?) {
+        return Ok(false);
+    }
+    Ok(admission.holds())
 }
