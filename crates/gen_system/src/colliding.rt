@@ -11,6 +11,13 @@ use gen_identity::collide;
 use gen_types::GeneralNo;
 use std::alloc::{AllocError, Global};
 
+/// Returns whether two strings of bytes are equal.
+fn same_bytes(left: &[u8], right: &[u8]) -> bool
+    ensures { IsTrue result ↔ (left.now ≡ right.now) }
+{
+    left == right
+}
+
 /// Returns whether two admissions have one root of a node.
 fn same_root(first: &Admission, second: &Admission, node: GeneralNo) -> bool
     requires first { node < first.now.system.header.network.generals }
@@ -68,7 +75,7 @@ pub fn collide_headers(
 {
     let text = text_of_id(alloc, first.system())?;
     let other_text = text_of_id(alloc, second.system())?;
-    if text.as_slice() != other_text.as_slice() {
+    if !same_bytes(&text, &other_text) {
         return Ok((text, other_text));
     }
     'nodes: for number in 0..first.system().header().net().generals() {
