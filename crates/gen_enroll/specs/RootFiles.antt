@@ -23,7 +23,8 @@ root_length = 32
 abbrev pub AreWide : List (List ℕ) → Type 0
 AreWide roots = AllByRecursion (λ root. length root ≡ root_length) roots
 
--- what every file of roots keeps: it has at most 20 levels, and 2 to the power of them roots, of 32 bytes each
+-- what every file of roots keeps: it has at most 20 levels, and 2 to the power of them roots, of 32 bytes
+-- each
 pub record IsRootFile (f : RootFile) : Type 0 where
   pub few : f.levels ≤ most_levels
   pub count : length f.roots ≡ 2 ^ f.levels
@@ -33,7 +34,8 @@ pub record IsRootFile (f : RootFile) : Type 0 where
 abbrev pub head_of : RootFile → RootsHead
 head_of f = record { height = f.height; levels = f.levels }
 
--- the first four bytes as a number, big-endian: `SMI1` if the trees have height 4, `SMI2` if they have height 6
+-- the first four bytes as a number, big-endian: `SMI1` if the trees have height 4, `SMI2` if they have
+-- height 6
 abbrev pub root_mark : TreeHeight → ℕ
 root_mark Four = 1397573937
 root_mark Six = 1397573938

@@ -8,11 +8,13 @@ use Rattle.gen_system.specs.RunNets.{network_of_run}
 use Rattle.gen_system.specs.Runs.{node_of, set_of_run, version_of_run}
 use Rattle.gen_system.specs.Systems.{identity_in, system_id_of}
 
--- the opening of each node shows its root as the one of the set under the node's identity
+-- the opening of a node shows its root as the one of the set under the node's identity
+abbrev pub HoldsOf : SetAdmission → ℕ → Type 0
+HoldsOf a node = Opens (identity_in a.system node) a.set (root_in a node) (opening_in a node)
+
+-- the openings of all nodes do
 abbrev pub Holds : SetAdmission → Type 0
-Holds a =
-    (node : ℕ) → node < a.system.header.network.generals
-    → Opens (identity_in a.system node) a.set (root_in a node) (opening_in a node)
+Holds a = (node : ℕ) → node < a.system.header.network.generals → HoldsOf a node
 
 -- the roots of the generals of a run, each that of its node
 abbrev pub roots_of_run : SetAdmission → ℕ → List (List ℕ)

@@ -132,9 +132,10 @@ pub fn admission_in_front(
     ensures { IsField result (admission_at bytes.now) }
 {
     let (system, rest) = read_marked_system(alloc, bytes)?;
-    let (set, rest) = read_set(system.levels(), rest)?;
+    let levels = system.levels();
     let nodes = system.header().net().generals();
-    let (opened, rest) = read_each(alloc, system.levels(), nodes, rest)?;
+    let (set, rest) = read_set(levels, rest)?;
+    let (opened, rest) = read_each(alloc, levels, nodes, rest)?;
     let admission = Admission {
         system,
         set,

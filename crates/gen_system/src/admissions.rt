@@ -1,12 +1,13 @@
 //! Admissions.
-ghost use Rattle.std.specs.Prelude.{◌≡◌, true, length};
+ghost use Rattle.std.specs.Prelude.{◌≡◌, ◌<◌, ◌==◌, true, length};
 ghost use Rattle.std.specs.List.{AllByRecursion};
 ghost use Rattle.gen_system.specs.Admissions as admissions;
-ghost use Rattle.gen_system.specs.Admissions.{IsAdmission, IsOpenedRoot, admission_with};
+ghost use Rattle.gen_system.specs.Admissions.{IsAdmission, IsOpenedRoot, admission_with, opening_in, root_in};
 
 use crate::admission_fault::AdmissionFault;
 use crate::opened_roots::OpenedRoot;
 use crate::systems::System;
+use gen_types::GeneralNo;
 use std::marker::Model;
 
 /// What admits the runs of one set of keys of a system: for each node the root of its set, with the opening. It has the
@@ -31,13 +32,21 @@ impl Model for Admission {
         (record { system = a.system; set = a.set; opened = a.opened.items }) };
 }
 
+/// Returns whether an opening has this many siblings.
+fn has_levels(levels: u8, one: &OpenedRoot) -> bool
+    ensures value { result ≡ (length one.now.opening == levels) }
+    ensures opened { result ≡ true → IsOpenedRoot levels one.now }
+{
+    one.opening.siblings().len() == usize::from(levels)
+}
+
 /// Returns whether each opening has this many siblings.
 fn have_levels(levels: u8, opened: &[OpenedRoot]) -> bool
     ensures value { result ≡ admissions.have_levels levels opened.now }
     ensures opened { result ≡ true → AllByRecursion (IsOpenedRoot levels) opened.now }
 {
     'roots: for one in opened {
-        if one.opening.siblings().len() != usize::from(levels) {
+        if !has_levels(levels, one) {
             return false;
         }
     }
@@ -96,5 +105,14 @@ impl Admission {
         ensures admission { IsAdmission self.now }
     {
         self.opened.as_slice()
+    }
+
+    /// Returns the root of a node's set with its opening. The node must be one of the network's.
+    pub fn opened_of(&self, node: GeneralNo) -> &OpenedRoot
+        requires { node < self.now.system.header.network.generals }
+        ensures root { result.now.root ≡ root_in self.now node }
+        ensures opening { result.now.opening ≡ opening_in self.now node }
+    {
+        &self.opened()[usize::from(node.get())]
     }
 }

@@ -1,15 +1,13 @@
 //! What admissions show: the headers of the runs of their sets.
 ghost use Rattle.std.specs.Prelude.{◌≡◌, ◌↔◌, ◌<◌, IsTrue, IfOk};
-ghost use Rattle.gen_net.specs.Header.{IsHeader};
-ghost use Rattle.gen_identity.specs.Openings.{Opens};
-ghost use Rattle.gen_system.specs.Admissions.{root_in, opening_in};
-ghost use Rattle.gen_system.specs.Admitting.{Admits, Holds, header_of_run, roots_of_run};
-ghost use Rattle.gen_system.specs.Systems.{identity_in};
+ghost use Rattle.gen_net.specs.Header.{header_with};
+ghost use Rattle.gen_system.specs.Runs.{version_of_run};
+ghost use Rattle.gen_system.specs.Admitting.{Admits, Holds, HoldsOf, header_of_run, roots_of_run};
 
 use crate::admissions::Admission;
 use crate::runs::{set_of_run, slot_of_run};
 use gen_identity::opens;
-use gen_net::{Header, Version};
+use gen_net::{Header, HeaderFault, Net, Version};
 use gen_types::GeneralNo;
 use std::alloc::{AllocError, Global};
 
@@ -20,15 +18,20 @@ fn same_id(left: &[u8; 32], right: &[u8; 32]) -> bool
     left == right
 }
 
+/// Returns whether two headers are equal.
+fn same_header(left: &Header, right: &Header) -> bool
+    ensures { IsTrue result ↔ (left.now ≡ right.now) }
+{
+    left == right
+}
+
 impl Admission {
     /// Returns whether the opening of a node shows its root as the one of the set under the node's identity.
     fn holds_of(&self, node: GeneralNo) -> bool
         requires { node < self.now.system.header.network.generals }
-        ensures { IsTrue result
-            ↔ Opens (identity_in self.now.system node) self.now.set
-            (root_in self.now node) (opening_in self.now node) }
+        ensures { IsTrue result ↔ HoldsOf self.now node }
     {
-        let one = &self.opened()[usize::from(node.get())];
+        let one = self.opened_of(node);
         opens(
             &self.system.identity(node),
             self.set,
@@ -53,13 +56,29 @@ impl Admission {
     fn roots_in_run(&self, alloc: Global, run: u32) -> Result<Vec<[u8; 32]>, AllocError>
         ensures { IfOk result (λ roots. roots.items ≡ roots_of_run self.now run) }
     {
+        let system = self.system();
         let opened = self.opened();
         let mut roots = Vec::new(alloc);
-        'generals: for general in 0..self.system.header().net().generals() {
-            let node = self.system.node_of(run, GeneralNo::at(general));
+        'generals: for general in 0..system.header().net().generals() {
+            let node = system.node_of(run, GeneralNo::at(general));
             roots.push(opened[usize::from(node.get())].root)?;
         }
         Ok(roots)
+    }
+}
+
+/// Returns the header of a run of a system that has headers of this version.
+fn header_in_run(
+    version: Version,
+    run: u32,
+    net: Net,
+    roots: Vec<[u8; 32]>,
+) -> Result<Header, HeaderFault>
+    ensures { result ≡ header_with (version_of_run version run) net roots.items }
+{
+    match version {
+        Version::One => Header::new(net, roots),
+        Version::Two { .. } => Header::new_in_slot(net, slot_of_run(version, run), roots),
     }
 }
 
@@ -71,18 +90,12 @@ impl Admission {
 ///
 /// `AllocError` if memory is refused.
 pub fn header_of(alloc: Global, admission: &Admission, run: u32) -> Result<Header, AllocError>
-    ensures value { IfOk result (λ header. header ≡ header_of_run admission.now run) }
-    ensures header { IfOk result IsHeader }
+    ensures { IfOk result (λ header. header ≡ header_of_run admission.now run) }
 {
-    let system = &admission.system;
+    let system = admission.system();
     let net = system.net_of(alloc, run)?;
     let roots = admission.roots_in_run(alloc, run)?;
-    let version = system.header().version();
-    let made = match version {
-        Version::One => Header::new(net, roots),
-        Version::Two { .. } => Header::new_in_slot(net, slot_of_run(version, run), roots),
-    };
-    match made {
+    match header_in_run(system.header().version(), run, net, roots) {
         Ok(header) => Ok(header),
         Err(_) => unreachable!(),
     }
@@ -101,10 +114,17 @@ pub fn admits(
     header: &Header,
     admission: &Admission,
 ) -> Result<bool, AllocError>
-    ensures { IfOk result (λ yes_it_does. IsTrue yes_it_does ↔ Admits id.now run header.now admission.now) }
+    ensures { IfOk result (λ said. IsTrue said ↔ Admits id.now run header.now admission.now) }
 {
-    let of_system = same_id(&admission.system.id(alloc)?, id);
-    let of_set = admission.set == set_of_run(admission.system.header().version(), run);
-    let of_run = *header == header_of(alloc, admission, run)?;
-    Ok(of_system && of_set && of_run && admission.holds())
+    let system = admission.system();
+    if !same_id(&system.id(alloc)?, id) {
+        return Ok(false);
+    }
+    if admission.set() != set_of_run(system.header().version(), run) {
+        return Ok(false);
+    }
+    if !same_header(header, &header_of(alloc, admission, run)?) {
+        return Ok(false);
+    }
+    Ok(admission.holds())
 }
