@@ -8,10 +8,11 @@ use Rattle.gen_types.specs.declared.reading.ReadError.TheVariants as errors
 use Rattle.gen_types.specs.Reading.{◌>>=◌, Fails}
 use Rattle.gen_types.proofs.Steps.{after, at_end}
 use Rattle.gen_system.specs.declared.opened_roots.OpenedRoot.{OpenedRoot}
-use Rattle.gen_system.specs.Systems.{RunSystem}
+use Rattle.gen_system.specs.Admissions.{SetAdmission, admission_spelling}
+use Rattle.gen_system.specs.Systems.{RunSystem, system_id_of}
 use Rattle.gen_enrolling.specs.declared.enroll_fault.EnrollFault.{EnrollFault}
 use Rattle.gen_enrolling.specs.declared.gathering.NodeRoots.{NodeRoots}
-use Rattle.gen_enrolling.specs.Gathering.{opened_all, opened_from}
+use Rattle.gen_enrolling.specs.Gathering.{admission_given, admission_made, opened_all, opened_each, opened_from, set_asked, system_read}
 
 -- what was opened before, and what is still opened
 abbrev pub with_front : List OpenedRoot → Result (List OpenedRoot) EnrollFault → Result (List OpenedRoot) EnrollFault
@@ -31,7 +32,7 @@ unfolding opened_all
 goes_on s set place files d front one total lt h so_far =
     let step : with_front front (rest_of s set place files) ≡ with_front (front ++ one ∷ []) (rest_of s set (place + 1) files) =
     ap (λ (fs : List NodeRoots). with_front front (opened_all s set place fs)) (drop_more files place d lt)
-    ∙ rw h (regroup front one (opened_all s set (suc place) (drop (place + 1) files))) in
+    ∙ rw h (regroup front one (opened_all s set (place + 1) (drop (place + 1) files))) in
     sym step ∙ so_far
 
 pub ends : (s : RunSystem) (set place : ℕ) (files : List NodeRoots) (d : NodeRoots) (front : List OpenedRoot) (e : ReadError EnrollFault) (total : Result (List OpenedRoot) EnrollFault) → place < length files
@@ -56,6 +57,12 @@ pub counted : (s : RunSystem) (set place : ℕ) (files : List NodeRoots) (opened
 unfolding opened_all
 counted s set place [] opened e = at_end {F = EnrollFault} (λ (os : List OpenedRoot). length os ≡ 0) [] opened e refl
 counted s set place (file ∷ files) opened e =
-    after (opened_from s set place file) (λ one. opened_all s set (suc place) files >>= λ others. Ok (one ∷ others)) opened e (λ one r0 e0.
-    after (opened_all s set (suc place) files) (λ others. Ok (one ∷ others)) opened e0 (λ others r1 e1.
-    at_end {F = EnrollFault} (λ (os : List OpenedRoot). length os ≡ suc (length files)) (one ∷ others) opened e1 (ap suc (counted s set (suc place) files others r1))))
+    after (opened_from s set place file) (λ one. opened_all s set (place + 1) files >>= λ others. Ok (one ∷ others)) opened e (λ one r0 e0.
+    after (opened_all s set (place + 1) files) (λ others. Ok (one ∷ others)) opened e0 (λ others r1 e1.
+    at_end {F = EnrollFault} (λ (os : List OpenedRoot). length os ≡ suc (length files)) (one ∷ others) opened e1 (ap suc (counted s set (place + 1) files others r1))))
+
+-- the admission, by what was read and made on the way
+pub given : (run : ℕ) (bytes : List ℕ) (files : List NodeRoots) (s : RunSystem) (set : ℕ) (opened : List OpenedRoot) (a : SetAdmission) (text id : List ℕ) → system_read bytes ≡ Ok s → set_asked s run ≡ Ok set
+    → opened_each s set files ≡ Ok opened → admission_made s set opened ≡ Ok a → text ≡ admission_spelling a → id ≡ system_id_of a.system → admission_given run bytes files ≡ Ok (text, id)
+unfolding admission_given
+given run bytes files s set opened a text id read asked each made spelled named = rw (read, asked, each, made, spelled, named) refl

@@ -9,7 +9,6 @@ use Rattle.gen_system.specs.Admissions.{SetAdmission}
 use Rattle.gen_system.specs.AdmissionReading.{whole_admission}
 use Rattle.gen_system.specs.Admitting.{Admits, Holds, header_of_run}
 use Rattle.gen_system.specs.Runs.{set_of_run}
-use Rattle.gen_system.specs.Systems.{system_id_of}
 use Rattle.gen_enrolling.specs.declared.enroll_fault.EnrollFault.{EnrollFault}
 use Rattle.gen_enrolling.specs.declared.enroll_fault.EnrollFault.TheVariants as faults
 use Rattle.gen_enrolling.specs.declared.systems.Made.{Made}

@@ -1,5 +1,5 @@
 -- The admission that a system and the files of roots of its nodes give.
-use Rattle.std.specs.Prelude.{ℕ, suc, ◌^◌, ◌==◌, ◌&&◌, Bool, true, false, nat_lt, List, [], ◌∷◌, length, slice_index_or, Result, Ok}
+use Rattle.std.specs.Prelude.{ℕ, ◌+◌, ◌^◌, ◌==◌, ◌&&◌, Bool, true, false, nat_lt, List, [], ◌∷◌, length, slice_index_or, Result, Ok}
 use Rattle.std.specs.Bool.{nat_eq}
 use Rattle.std.specs.Cmp.Lexicographic.{pointwise}
 use Rattle.gen_types.specs.declared.heights.TreeHeight.{TreeHeight}
@@ -52,8 +52,20 @@ unfoldable pub opened_all : RunSystem → ℕ → ℕ → List NodeRoots → Res
 opened_all s set node [] = Ok []
 opened_all s set node (file ∷ files) = do
   opened ← opened_from s set node file
-  others ← opened_all s set (suc node) files
+  others ← opened_all s set (node + 1) files
   Ok (opened ∷ others)
+
+-- the same of all nodes, if there is one file for each
+unfoldable pub opened_each : RunSystem → ℕ → List NodeRoots → Result (List OpenedRoot) EnrollFault
+opened_each s set files = do
+  each ← check (length files == s.header.network.generals) FileCount
+  opened_all s set 0 files
+
+-- the set of a run, if the system has the run
+unfoldable pub set_asked : RunSystem → ℕ → Result ℕ EnrollFault
+set_asked s run = do
+  known ← check (nat_lt (set_of_run s.header.version run) (2 ^ s.levels)) OtherSet
+  Ok (set_of_run s.header.version run)
 
 -- the admission of these parts, or the first rule that they break
 abbrev pub admission_made : RunSystem → ℕ → List OpenedRoot → Result SetAdmission EnrollFault
@@ -63,8 +75,7 @@ admission_made s set opened = map_fault Admission (admission_with s set opened)
 unfoldable pub admission_given : ℕ → List ℕ → List NodeRoots → Result (List ℕ × List ℕ) EnrollFault
 admission_given run bytes files = do
   system ← system_read bytes
-  known ← check (nat_lt (set_of_run system.header.version run) (2 ^ system.levels)) OtherSet
-  each ← check (length files == system.header.network.generals) FileCount
-  opened ← opened_all system (set_of_run system.header.version run) 0 files
-  admission ← admission_made system (set_of_run system.header.version run) opened
-  Ok (admission_spelling admission, system_id_of system)
+  set ← set_asked system run
+  opened ← opened_each system set files
+  admission ← admission_made system set opened
+  Ok (admission_spelling admission, system_id_of admission.system)

@@ -1,8 +1,8 @@
 //! Admissions from files of roots.
-ghost use Rattle.std.specs.Prelude.{◌≡◌, ◌<◌, ◌^◌, length};
+ghost use Rattle.std.specs.Prelude.{◌≡◌, ◌<◌, ◌^◌, IfOk, length};
 ghost use Rattle.gen_types.specs.Reading.{Gives};
 ghost use Rattle.gen_types.specs.Spelled.{IsRead};
-ghost use Rattle.gen_enrolling.specs.Gathering.{admission_given, admission_made, file_is_own, opened_all, opened_from, system_read};
+ghost use Rattle.gen_enrolling.specs.Gathering.{admission_given, admission_made, file_is_own, opened_all, opened_each, opened_from, set_asked, system_read};
 
 use crate::enroll_fault::EnrollFault;
 use crate::enrolling::roots_read;
@@ -80,14 +80,46 @@ fn opened_all(
 ) -> Result<Vec<OpenedRoot>, ReadError<EnrollFault>>
     requires nodes { length files.now ≡ system.now.header.network.generals }
     requires set { set < 2 ^ system.now.levels }
-    ensures { Gives (λ opened. opened.items) result (opened_all system.now set 0 files.now) }
+    ensures value { Gives (λ opened. opened.items) result (opened_all system.now set 0 files.now) }
+    ensures count { IfOk result (λ opened. length opened.items ≡ length files.now) }
 {
     let mut opened = Vec::new(alloc);
-    'files: for place in 0..files.len() {
-        let node = GeneralNo::at(place as u8);
-        opened.push(opened_from(alloc, system, set, node, &files[place])?)?;
+    'files: for place in 0..system.header().net().generals() {
+        let file = &files[usize::from(place)];
+        opened.push(opened_from(alloc, system, set, GeneralNo::at(place), file)?)?;
     }
     Ok(opened)
+}
+
+/// Returns the roots of a set of all nodes, with their openings, if there is one file for each node.
+#[tactic(auto, unfolding(crate::specs::Gathering::opened_each))]
+fn opened_each(
+    alloc: Global,
+    system: &System,
+    set: u32,
+    files: &[NodeRoots],
+) -> Result<Vec<OpenedRoot>, ReadError<EnrollFault>>
+    requires set { set < 2 ^ system.now.levels }
+    ensures value { Gives (λ opened. opened.items) result (opened_each system.now set files.now) }
+    ensures count { IfOk result (λ opened. length opened.items ≡ system.now.header.network.generals) }
+{
+    let nodes = usize::from(system.header().net().generals());
+    check(files.len() == nodes, EnrollFault::FileCount)?;
+    opened_all(alloc, system, set, files)
+}
+
+/// Returns the set of the run with this number, if the system has the run.
+#[tactic(auto, unfolding(crate::specs::Gathering::set_asked))]
+fn set_asked(system: &System, run: u32) -> Result<u32, ReadError<EnrollFault>>
+    ensures value { IsRead result (set_asked system.now run) }
+    ensures below { IfOk result (λ set. set < 2 ^ system.now.levels) }
+{
+    let set = set_of_run(system.header().version(), run);
+    if set < 1 << system.levels() {
+        Ok(set)
+    } else {
+        Err(ReadError::Fault(EnrollFault::OtherSet))
+    }
 }
 
 /// Returns the admission of these parts.
@@ -124,11 +156,8 @@ pub fn admission_of_files(
         (admission_given run system.now files.now) }
 {
     let system = system_read(alloc, system)?;
-    let set = set_of_run(system.header().version(), run);
-    check(set < 1 << system.levels(), EnrollFault::OtherSet)?;
-    let nodes = usize::from(system.header().net().generals());
-    check(files.len() == nodes, EnrollFault::FileCount)?;
-    let opened = opened_all(alloc, &system, set, files)?;
+    let set = set_asked(&system, run)?;
+    let opened = opened_each(alloc, &system, set, files)?;
     let admission = admission_made(system, set, opened)?;
     Ok(Made {
         bytes: write_admission(alloc, &admission)?,

@@ -2,7 +2,7 @@
 ghost use Rattle.std.specs.Prelude.{◌≡◌};
 ghost use Rattle.gen_types.specs.Reading.{Gives};
 ghost use Rattle.gen_types.specs.Spelled.{IsRead};
-ghost use Rattle.gen_enrolling.specs.Systems.{header_read, made_of, made_system, system_given, version_of};
+ghost use Rattle.gen_enrolling.specs.Systems.{header_read, made_system, system_given, version_of};
 
 use crate::enroll_fault::EnrollFault;
 use gen_net::{Header, Version};
