@@ -1,0 +1,12 @@
+use Rattle.std.proofs.Common.{◌∙◌, refl, sym}
+use Rattle.gen_system.proofs.TwoHeaders.{admitted_below}
+use Rattle.gen_system.proofs.laws.runs_are_admitted.Goals as goal
+
+pub returns-clause-below : goal.returns-clause-below
+returns-clause-below c = λ id run h a is admits. admitted_below run a is admits.set
+
+pub returns-clause-own : goal.returns-clause-own
+returns-clause-own c = λ run a holds set. record { system = refl; set = set; holds = holds; of_run = refl }
+
+pub returns-clause-alone : goal.returns-clause-alone
+returns-clause-alone c = λ id run h k a first second. first.of_run ∙ sym second.of_run
