@@ -1,24 +1,24 @@
 -- Admissions of one system with the same roots have one header for each run.
-use Rattle.std.proofs.Common.{◌≡◌, ◌≢◌, ◌<◌, ◌≤◌, ◌+◌, ◌*◌, ◌^◌, ◌⊎◌, inl, inr, ℕ, zero, suc, true, false, List, [], ◌∷◌, ◌++◌, drop, map, refl, sym, ap, subst, ◌∙◌, arith}
+use Rattle.std.proofs.Common.{◌≡◌, ◌≢◌, ◌<◌, ◌+◌, ◌*◌, ◌^◌, ◌⊎◌, inl, inr, ℕ, zero, suc, true, false, List, [], ◌∷◌, ◌++◌, drop, map, refl, sym, ap, subst, ◌∙◌, arith}
 use Rattle.std.specs.Bool.{nat_eq}
 use Rattle.std.specs.Cmp.Lexicographic.{pointwise}
 use Rattle.std.specs.List.{range_with_len}
 use Rattle.std.proofs.lemmas.Bool.{cases_eq}
 use Rattle.std.proofs.lemmas.Slice.Eq.{bytes_eq-Decides}
-use Rattle.sha2.specs.Sha256.{sha256}
 use Rattle.std.proofs.lemmas.Nat.{mod_below}
 use Rattle.gen_types.proofs.Front.{one_spelling_by}
 use Rattle.gen_types.proofs.Lists.{bool_cases}
-use Rattle.gen_net.specs.Header.{RunHeader}
+use Rattle.gen_net.specs.Header.{RunHeader, slot_of}
+use Rattle.gen_net.specs.Version.{slot_in}
 use Rattle.gen_system.specs.declared.proposers.Proposer.{Proposer}
 use Rattle.gen_system.specs.declared.proposers.Proposer.TheVariants.{First, Turns}
 use Rattle.gen_system.specs.Admissions.{SetAdmission, IsAdmission, root_in}
-use Rattle.gen_system.specs.Admitting.{header_of_run, roots_of_run}
-use Rattle.gen_system.specs.Colliding.{AdmitTwo, OpenedTwice, TwoHeadersTell}
+use Rattle.gen_system.specs.Admitting.{Admits, header_of_run, roots_of_run}
+use Rattle.gen_system.specs.Colliding.{AdmitTwo, TwoHeadersTell}
 use Rattle.gen_system.specs.RunNets.{network_of_run}
 use Rattle.gen_net.specs.declared.version.Version.{Version}
 use Rattle.gen_net.specs.declared.version.Version.TheVariants.{One, Two}
-use Rattle.gen_system.specs.Runs.{node_by, node_of, run_count_of, runs_of_set, set_of_run, version_of_run}
+use Rattle.gen_system.specs.Runs.{node_by, node_of, run_by, run_count_of, runs_of_set, set_of_run, version_of_run}
 use Rattle.gen_system.specs.SystemReading.{system_at}
 use Rattle.gen_system.specs.Systems.{RunSystem, IsSystem, id_text, identity_in, system_id_of, system_spelling}
 use Rattle.gen_system.proofs.SystemLaws.{systems_read}
@@ -119,3 +119,15 @@ run_below (Two slot) run most below = omega (arith, below)
 pub admitted_below : (run : ℕ) (a : SetAdmission) → IsAdmission a → a.set ≡ set_of_run a.system.header.version run → run < run_count_of a.system
 admitted_below run a is set =
     run_below a.system.header.version run (2 ^ a.system.levels) (subst (λ (x : ℕ). x < 2 ^ a.system.levels) set is.set)
+
+-- the set of a run and its slot lead to it
+found_again : (v : Version) (run : ℕ) → run ≡ run_by v (set_of_run v run) (slot_in (version_of_run v run))
+found_again One run = refl
+found_again (Two slot) run = omega arith
+
+pub number_is : (id : List ℕ) (run : ℕ) (h : RunHeader) (a : SetAdmission) → Admits id run h a → run ≡ run_by a.system.header.version a.set (slot_of h)
+number_is id run h a admits =
+    let v = a.system.header.version in
+    found_again v run
+    ∙ ap (λ (set : ℕ). run_by v set (slot_in (version_of_run v run))) (sym admits.set)
+    ∙ ap (λ (k : RunHeader). run_by v a.set (slot_of k)) (sym admits.of_run)

@@ -41,7 +41,8 @@ pub fn generals_are_nodes()
 {}
 
 /// States what admissions admit. A run that is admitted is one of the system's (`below`). An admission that holds admits
-/// the header of each run of its set (`own`), and no other for that run (`alone`).
+/// the header of each run of its set (`own`), and no other for that run (`alone`). It admits a header under one number
+/// at most (`number`).
 pub fn runs_are_admitted()
     ensures below { (id : List ℕ) (run : ℕ) (h : RunHeader) (a : SetAdmission)
         → IsAdmission a → Admits id run h a → run < run_count_of a.system }
@@ -50,6 +51,8 @@ pub fn runs_are_admitted()
         → Admits (system_id_of a.system) run (header_of_run a run) a }
     ensures alone { (id : List ℕ) (run : ℕ) (h k : RunHeader) (a : SetAdmission)
         → Admits id run h a → Admits id run k a → h ≡ k }
+    ensures number { (id : List ℕ) (run other : ℕ) (h : RunHeader) (a : SetAdmission)
+        → Admits id run h a → Admits id other h a → run ≡ other }
 {}
 
 /// States what two admissions show that admit two headers for one run under one system id. The texts of that id differ,
