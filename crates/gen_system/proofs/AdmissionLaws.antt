@@ -1,12 +1,12 @@
 -- Admissions: what was read is what stood there, and what was written is read again.
-use Rattle.std.proofs.Common.{◌≡◌, ◌<◌, ◌≤◌, ℕ, ◌^◌, true, eqb, ltb, List, [], ◌∷◌, ◌++◌, length, Result, Ok, refl, sym, ap, ◌∙◌, append_assoc, arith}
+use Rattle.std.proofs.Common.{◌≡◌, ◌<◌, ◌≤◌, ℕ, ◌^◌, true, eqb, ltb, List, ◌++◌, length, Result, Ok, refl, sym, ap, ◌∙◌, append_assoc, arith}
 use Rattle.std.specs.Int.{w32, to_be_bytes}
 use Rattle.std.specs.List.{flat_map}
 use Rattle.std.proofs.Math.Nat.{pow-le-pow_right}
 use Rattle.std.proofs.lemmas.Bool.{eqb-true, eq-eqb, ltb-true, lt-ltb}
 use Rattle.gen_types.specs.Reading.{◌>>=◌, check, map_fault}
 use Rattle.gen_types.specs.Bytes.{byte_at, bytes_at, number_at, many_at}
-use Rattle.gen_types.proofs.ByteFields.{IsBytes, Takes, Takes-then, byte_takes, bytes_takes, bytes_again, number_takes, number_again, wide32}
+use Rattle.gen_types.proofs.ByteFields.{IsBytes, Takes, Takes-then, bytes_takes, bytes_again, number_takes, number_again, wide32}
 use Rattle.gen_types.proofs.ManyFields.{Reads, many_take, many_again}
 use Rattle.gen_types.proofs.Steps.{after, after_check, at_end, mapped_ok, ok_is}
 use Rattle.gen_net.specs.Header.{root_length}
@@ -102,16 +102,16 @@ set_taken levels bytes x are e =
     let t = number_takes faults.Truncated w32 (2 ^ 32) wide32 bytes set.0 set.1 are r0 in
     at_end {F = AdmissionFault} (λ (y : ℕ × List ℕ). Takes bytes (to_be_bytes w32 y.0) y.1 × (y.0 < 2 ^ levels)) set x e1 (t.0, ltb-true _ _ below)))
 
--- a set of identities with at most 20 levels has a number of four bytes
-fits_word : (levels set : ℕ) → levels ≤ most_levels → set < 2 ^ levels → set < 2 ^ 32
-fits_word levels set few below =
+-- identities with at most 20 levels have at most 2 ^ 20 sets, so that a set's number has four bytes
+pub few_sets : (levels set : ℕ) → levels ≤ most_levels → set < 2 ^ levels → set < 2 ^ 20
+few_sets levels set few below =
     let most : 2 ^ levels ≤ 2 ^ 20 = pow-le-pow_right {n = 2} (omega arith) few in
     omega (arith, below, most)
 
 set_again : (levels set : ℕ) (rest : List ℕ) → levels ≤ most_levels → set < 2 ^ levels → set_at levels (to_be_bytes w32 set ++ rest) ≡ Ok (set, rest)
 unfolding set_at
 set_again levels set rest few lt =
-    let number = number_again {F = AdmissionFault} faults.Truncated w32 (2 ^ 32) wide32 set rest (fits_word levels set few lt) in
+    let number = number_again {F = AdmissionFault} faults.Truncated w32 (2 ^ 32) wide32 set rest (omega (arith, few_sets levels set few lt)) in
     let below : ltb set (2 ^ levels) ≡ true = lt-ltb _ _ lt in
     rw (number, below) refl
 

@@ -1,12 +1,12 @@
 -- Edges whose ends are renamed: none is bad, and they join whom they joined.
-use Rattle.std.proofs.Common.{◌≡◌, ◌≢◌, ◌<◌, ◌+◌, ◌-◌, ◌⊎◌, ◌↔◌, inl, inr, ℕ, Bool, true, false, not, ◌&&◌, ◌||◌, eqb, ltb, List, [], ◌∷◌, map, filter, Contains, AllPairs, refl, sym, ap, subst, ◌∙◌, arith}
+use Rattle.std.proofs.Common.{◌≡◌, ◌<◌, ◌≤◌, ◌+◌, ◌-◌, ◌⊎◌, ◌↔◌, inl, inr, ℕ, Bool, true, false, ◌&&◌, eqb, ltb, List, [], ◌∷◌, map, filter, Contains, AllPairs, refl, sym, ap, subst, ◌∙◌, arith}
 use Rattle.std.specs.List.{list_any, flat_map, range_with_len}
-use Rattle.std.proofs.lemmas.Bool.{cases_eq, cases_lt, eq-eqb, eqb-true, lt-ltb, ne_eqb}
+use Rattle.std.proofs.lemmas.Bool.{cases_lt, eq-eqb, eqb-true, lt-ltb, ne_eqb}
 use Rattle.std.proofs.lemmas.List.Concat.{flat_map-cons}
 use Rattle.std.proofs.lemmas.List.Elements.{All-contains, Contains-append_left, Contains-append_right}
 use Rattle.gen_types.proofs.Decimals.{both}
 use Rattle.gen_types.proofs.Lists.{bool_cases, Contains_here, Contains_there, Contains_cases, Contains_nil, Contains_filtered, Contains_mapped, Contains_in_range, AllPairs_head, AllPairs_tail}
-use Rattle.gen_net.specs.Edges.{joins, is_edge, has_bad_edge, row, pairs, edges_of}
+use Rattle.gen_net.specs.Edges.{joins, has_bad_edge, row, pairs, edges_of}
 use Rattle.gen_net.specs.Network.{IsBefore, AreEdges}
 
 -- ---- members
@@ -177,19 +177,22 @@ one_way n to back r es edges a b h =
           inr (subst (λ (f : ℕ × ℕ). Contains es f) pair from.1)
     ]
 
+below_of : (a b : ℕ) → b ≤ a → (a ≡ b → ⊥) → b < a
+below_of a b le ne = omega (arith, le, ne)
+
 other_way : (n : ℕ) (to back : ℕ → ℕ) → IsRenaming n to back → (es : List (ℕ × ℕ)) → AreEdges n es → (a b : ℕ) → a < n → b < n → Contains es (back a, back b) → Joined (edges_of n (moved to es)) a b
 other_way n to back r es edges a b la lb h =
     let inside = edges.inside (back a) (back b) h in
+    let apart : a ≡ b → ⊥ = λ e. omega (arith, inside.0, ap back e) in
     let P : ℕ × ℕ → Bool = λ p. list_any (joins p.0 p.1) (moved to es) in
     let given : Contains (moved to es) (to (back a), to (back b)) = Contains_map (λ (e : ℕ × ℕ). (to e.0, to e.1)) es (back a, back b) h in
     let pair : (to (back a), to (back b)) ≡ (a, b) = λ i. (r.to_back a la i, r.to_back b lb i) in
-    let stands = subst (λ (f : ℕ × ℕ). Contains (moved to es) f) pair given in
+    let stands : Contains (moved to es) (a, b) = subst (λ (f : ℕ × ℕ). Contains (moved to es) f) pair given in
     elim (cases_lt a b) [
       | inl up ↦ inl (Contains_filter P (pairs n) (a, b) (in_pairs n a b up lb) (any_told (joins a b) (moved to es) (a, b) stands (joins_same a b)))
-      | inr le ↦ elim (cases_eq a b) [
-        | inl e ↦ absurd (omega (arith, inside.0, ap back e))
-        | inr ne ↦ inr (Contains_filter P (pairs n) (b, a) (in_pairs n b a (omega (arith, le, ne)) la) (any_told (joins b a) (moved to es) (a, b) stands (joins_crossed a b)))
-      ]
+      | inr le ↦
+          let down : b < a = below_of a b le apart in
+          inr (Contains_filter P (pairs n) (b, a) (in_pairs n b a down la) (any_told (joins b a) (moved to es) (a, b) stands (joins_crossed a b)))
     ]
 
 turned_round : {X Y : Type 0} → X ⊎ Y → Y ⊎ X

@@ -9,7 +9,7 @@ use Rattle.gen_types.specs.declared.choices.ChoiceKind.TheVariants.{Only, Median
 use Rattle.gen_types.specs.ChoiceOf.{choice_number, choice_numbered}
 use Rattle.gen_types.specs.declared.reading.ReadError.{ReadError}
 use Rattle.gen_types.specs.declared.reading.ReadError.TheVariants as errors
-use Rattle.gen_types.specs.Reading.{◌>>=◌, check, Fails}
+use Rattle.gen_types.specs.Reading.{Fails}
 use Rattle.gen_types.specs.Spelled.{IsRead}
 use Rattle.gen_net.specs.declared.fault.HeaderFault.{HeaderFault}
 use Rattle.gen_net.specs.declared.numbers.NetNumbers.{NetNumbers}

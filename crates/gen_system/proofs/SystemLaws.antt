@@ -1,10 +1,9 @@
 -- Systems: what was read is what stood there, and what was written is read again.
-use Rattle.std.proofs.Common.{◌≡◌, ◌≤◌, ℕ, ◌^◌, Bool, true, false, not, eqb, leb, List, [], ◌∷◌, ◌++◌, length, Result, Ok, refl, sym, ap, ◌∙◌, append_assoc, arith, inl, inr}
+use Rattle.std.proofs.Common.{◌≡◌, ◌≤◌, ℕ, ◌^◌, Bool, true, false, not, eqb, leb, List, [], ◌∷◌, ◌++◌, Result, Ok, refl, sym, ap, ◌∙◌, append_assoc, arith, inl, inr}
 use Rattle.std.specs.Int.{w32, to_be_bytes}
 use Rattle.std.proofs.lemmas.Bool.{eqb-true, eq-eqb, leb-true, le-leb}
-use Rattle.gen_types.specs.Reading.{◌>>=◌, check, map_fault}
+use Rattle.gen_types.specs.Reading.{◌>>=◌, check}
 use Rattle.gen_types.specs.Bytes.{byte_at, bytes_at, number_at}
-use Rattle.gen_types.specs.Spelled.{Spells}
 use Rattle.gen_types.proofs.Lists.{bool_cases}
 use Rattle.gen_types.proofs.ByteFields.{IsBytes, Takes, Takes-then, byte_takes, bytes_takes, bytes_again, number_takes, number_again, wide32}
 use Rattle.gen_types.proofs.ManyFields.{Reads}
@@ -17,7 +16,7 @@ use Rattle.gen_system.specs.declared.proposers.Proposer.{Proposer}
 use Rattle.gen_system.specs.declared.proposers.Proposer.TheVariants.{First, Turns}
 use Rattle.gen_system.specs.declared.system_fault.SystemFault.{SystemFault}
 use Rattle.gen_system.specs.declared.system_fault.SystemFault.TheVariants as faults
-use Rattle.gen_system.specs.SystemReading.{header_fault, any_header_at, marked_header_at, proposer_numbered, proposer_at, levels_at, system_at, whole_system}
+use Rattle.gen_system.specs.SystemReading.{header_fault, any_header_at, marked_header_at, proposer_numbered, proposer_at, levels_at, system_at}
 use Rattle.gen_system.specs.Systems.{RunSystem, IsSystem, context_length, has_equal, fit_header, proposer_number, choices_spelling, system_mark, system_spelling}
 use Rattle.gen_system.proofs.Apart.{apart_told, apart_again}
 

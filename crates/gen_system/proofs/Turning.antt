@@ -1,5 +1,5 @@
 -- Nodes and generals where nodes propose in turns: each is the other's way back.
-use Rattle.std.proofs.Common.{◌≡◌, ℕ, ◌+◌, ◌-◌, ◌<◌, ◌≤◌, ◌%◌, sym, ap, ◌∙◌, arith}
+use Rattle.std.proofs.Common.{◌≡◌, ℕ, ◌+◌, ◌-◌, ◌<◌, ◌%◌, sym, ap, ◌∙◌, arith}
 use Rattle.std.proofs.Math.Nat.{add-mod_right, add-mod-mod, mod-add-mod, mod-eq_of_lt}
 use Rattle.std.proofs.lemmas.Nat.{mod_below}
 

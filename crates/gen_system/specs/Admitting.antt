@@ -1,5 +1,5 @@
 -- What an admission shows: the roots of its set, and the headers of the runs of that set.
-use Rattle.std.specs.Prelude.{ℕ, ◌≡◌, ◌<◌, List, map}
+use Rattle.std.specs.Prelude.{ℕ, ◌≡◌, ◌<◌, List, map, Option, Some, None}
 use Rattle.std.specs.List.{range_with_len}
 use Rattle.gen_net.specs.Header.{RunHeader}
 use Rattle.gen_identity.specs.Openings.{Opens}
@@ -37,3 +37,8 @@ pub record Admits (id : List ℕ) (run : ℕ) (header : RunHeader) (a : SetAdmis
   pub set : a.set ≡ set_of_run a.system.header.version run
   pub holds : Holds a
   pub of_run : header ≡ header_of_run a run
+
+-- the number under which the admission admits this header; or there is none
+abbrev pub IsNumberOf : List ℕ → RunHeader → SetAdmission → Option ℕ → Type 0
+IsNumberOf id header a (Some run) = Admits id run header a
+IsNumberOf id header a None = (run : ℕ) → Admits id run header a → ⊥

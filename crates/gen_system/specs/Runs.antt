@@ -25,6 +25,11 @@ abbrev pub slot_of_run : Version → ℕ → ℕ
 slot_of_run One run = 0
 slot_of_run (Two slot) run = run % 4
 
+-- the run of a set that has this slot
+abbrev pub run_by : Version → ℕ → ℕ → ℕ
+run_by One set slot = set
+run_by (Two of_system) set slot = 4 * set + slot
+
 -- the version of a run's header
 abbrev pub version_of_run : Version → ℕ → Version
 version_of_run One run = One

@@ -2,10 +2,10 @@
 ghost use Rattle.std.specs.Prelude.{◌≡◌, ◌↔◌, ◌<◌, IsTrue, IfOk};
 ghost use Rattle.gen_net.specs.Header.{header_with};
 ghost use Rattle.gen_system.specs.Runs.{version_of_run};
-ghost use Rattle.gen_system.specs.Admitting.{Admits, Holds, HoldsOf, header_of_run, roots_of_run};
+ghost use Rattle.gen_system.specs.Admitting.{Admits, Holds, HoldsOf, IsNumberOf, header_of_run, roots_of_run};
 
 use crate::admissions::Admission;
-use crate::runs::{set_of_run, slot_of_run};
+use crate::runs::{run_by, set_of_run, slot_of_run};
 use gen_identity::opens;
 use gen_net::{Header, HeaderFault, Net, Version};
 use gen_types::GeneralNo;
@@ -127,4 +127,26 @@ pub fn admits(
         return Ok(false);
     }
     Ok(admission.holds())
+}
+
+/// Returns the number of the run with this header, if the admission admits it in the system with this id; None if and
+/// only if it is none of the runs of the admission's set. There is one such number at most.
+///
+/// # Errors
+///
+/// `AllocError` if memory is refused.
+pub fn number_of(
+    alloc: Global,
+    id: &[u8; 32],
+    header: &Header,
+    admission: &Admission,
+) -> Result<Option<u32>, AllocError>
+    ensures { IfOk result (IsNumberOf id.now header.now admission.now) }
+{
+    let version = admission.system().header().version();
+    let run = run_by(version, admission.set(), header.slot());
+    if admits(alloc, id, run, header, admission)? {
+        return Ok(Some(run));
+    }
+    Ok(None)
 }

@@ -5,7 +5,8 @@ ghost use Rattle.gen_system.specs.Runs as by_number;
 
 use crate::proposers::Proposer;
 use crate::systems::System;
-use gen_net::Version;
+use gen_identity::sizes::MOST_SETS;
+use gen_net::{GREATEST_SLOT, Version};
 use gen_types::GeneralNo;
 
 /// The number of runs that a set of keys serves in version 2.
@@ -28,6 +29,18 @@ pub fn slot_of_run(version: Version, run: u32) -> u8
     match version {
         Version::One => 0,
         Version::Two { .. } => (run % RUNS_OF_SET) as u8,
+    }
+}
+
+/// Returns the run of a set with this slot, 0 to 3. In version 1 a set has one run.
+pub fn run_by(version: Version, set: u32, slot: u8) -> u32
+    requires set { set < MOST_SETS }
+    requires slot { slot ≤ GREATEST_SLOT }
+    ensures { result ≡ by_number.run_by version set slot }
+{
+    match version {
+        Version::One => set,
+        Version::Two { .. } => RUNS_OF_SET * set + u32::from(slot),
     }
 }
 

@@ -1,4 +1,4 @@
-use Rattle.std.proofs.Common.{◌≡◌, ◌<◌, ◌∙◌, ℕ, sym, ap, arith}
+use Rattle.std.proofs.Common.{◌≡◌, ◌∙◌, sym, ap, arith}
 use Rattle.gen_net.specs.Header.{RunHeader}
 use Rattle.gen_net.specs.Network.{Network}
 use Rattle.gen_system.specs.Systems.{RunSystem, id_text}

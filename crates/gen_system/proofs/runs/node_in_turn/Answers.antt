@@ -1,4 +1,4 @@
-use Rattle.std.proofs.Common.{◌≡◌, ◌+◌, ◌-◌, ◌%◌, ℕ, ap, ◌∙◌}
+use Rattle.std.proofs.Common.{◌+◌, ◌-◌, ◌%◌, ℕ, ap, ◌∙◌}
 use Rattle.gen_system.proofs.Turning.{general_back, node_cut}
 use Rattle.gen_system.proofs.runs.node_in_turn.Goals as goal
 

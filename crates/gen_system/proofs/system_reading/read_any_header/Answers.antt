@@ -1,4 +1,4 @@
-use Rattle.std.proofs.Common.{◌≡◌, ◌∙◌, ℕ, List, drop, Ok, refl, sym, ap}
+use Rattle.std.proofs.Common.{◌≡◌, ◌∙◌, drop, Ok, refl, sym, ap}
 use Rattle.std.proofs.lemmas.List.{drop_at}
 use Rattle.gen_types.specs.Spelled.{IsReadFrom}
 use Rattle.gen_net.specs.Header.{IsHeader, header_spelling}

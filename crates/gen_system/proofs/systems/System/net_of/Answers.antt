@@ -3,7 +3,7 @@ use Rattle.gen_net.specs.Network.{IsNetwork}
 use Rattle.gen_system.specs.declared.proposers.Proposer.TheVariants.{Turns}
 use Rattle.gen_system.specs.RunNets.{IsNetOfRun, network_by}
 use Rattle.gen_system.specs.Systems.{RunSystem}
-use Rattle.gen_system.proofs.RunNetLaws.{if_ok, moved_by, net_of_run}
+use Rattle.gen_system.proofs.RunNetLaws.{if_ok, moved_by}
 use Rattle.gen_system.proofs.systems.System.net_of.Goals as goal
 
 pub returns-in-Turns-clause-moved : goal.returns-in-Turns-clause-moved

@@ -1,4 +1,4 @@
-use Rattle.std.proofs.Common.{arith, rules, sym, ◌∙◌}
+use Rattle.std.proofs.Common.{arith, rules}
 use Rattle.gen_system.proofs.Apart.{apart_told}
 use Rattle.gen_system.proofs.systems.System.new.Goals as goal
 
