@@ -40,6 +40,7 @@ N9|N9 from A to B round L order V|What general B received with order V in round 
 N10|N10 pair A B|No walk of the bundle joins generals A and B by few enough edges of the rest, and no lesser pair is so; if there are no walks, see parted in the verdict as JSON.\n\
 N11|N11|Nobody is of the rest, since all generals are held for faulty, and nothing else is found.\n\
 G2|fault G2 generals A B|Generals A and B have the same root, and no lesser pair has: whoever has its keys is counted twice.\n\
+A10|fault A10 node G|The file of roots of node G is not that of its identity in the system.\n\
 fault|fault NAMES|The input has a fault, the first in the order in which it is read.\n\
 P1|P1|The text ends before the line end and its line feed.\n\
 P2|P2|Another line than may stand here, or another number of fields; in a campaign also a text without a seed or without a slot.\n\
@@ -73,7 +74,7 @@ H8|H8|There is not one root for each general.\n\
 H9|H9|The bytes end before the header does.\n\
 H10|H10|The first byte of the header is no version, or is not the version of the mark. A line behind the fault says what the file is, if its first bytes tell.\n\
 H11|H11|The slot is above 3.\n\
-G1|G1|The input is no seed, since it has not 32 bytes.\n\
+G1|G1|The input is no seed and no secret, since it has not 32 bytes.\n\
 R1|R1|The input is not of the runs that --run names, in their order.\n\
 B1|B1|The input ends before the bundle does.\n\
 B2|B2|The first four bytes are neither SMB1 nor SMB2; in a campaign, they are not SMB2. A line behind the fault says what the file is, if its first bytes tell.\n\
@@ -100,6 +101,29 @@ Q2|Q2|The first four bytes of a receipt are neither SMR1 nor SMR2. A line behind
 Q3|Q3|The header of a receipt has a fault, which follows.\n\
 Q4|Q4|A receipt has a general or an order that is none of the network.\n\
 Q5|Q5|A receipt has another header than the first.\n\
+A1|A1|The input ends before the admission does.\n\
+A2|A2|The first four bytes are not SMA1.\n\
+A3|A3|The system in the admission has a fault, which follows.\n\
+A4|A4|The system has no set of keys with this number.\n\
+A5|A5|An opening has not one sibling for each level.\n\
+A6|A6|Bytes are left over behind the admission.\n\
+A7|A7|The admission does not hold: a root is not that of the identity of its node.\n\
+A8|A8|The run is not of the set of the admission, or the system has no such run.\n\
+A9|A9|There is not one file of roots for each node, node 0 first.\n\
+I1|I1|The input ends before the roots do.\n\
+I2|I2|The first four bytes are neither SMI1 nor SMI2.\n\
+I3|I3|The levels are above 20.\n\
+I4|I4|Bytes are left over behind the roots.\n\
+O1|O1|The input ends before the opening does.\n\
+O2|O2|An opening has more than 20 siblings.\n\
+U1|U1|The input ends before the system does.\n\
+U2|U2|The first four bytes are not SMS1.\n\
+U3|U3|The header of the system has a fault, which follows.\n\
+U4|U4|The slot of the header of the system is not 0.\n\
+U5|U5|Two nodes of the system have the same identity.\n\
+U6|U6|The proposer of the system is neither 0 nor 1.\n\
+U7|U7|The levels are above 20.\n\
+U8|U8|Bytes are left over behind the system.\n\
 L1|L1|The bytes end inside the log, and not inside a chain.\n\
 L2|L2|The first byte of an entry is none of 01 to 05.\n\
 L3|L3|An entry has a general, an order, a length, a path or a set that this run cannot have.\n\
