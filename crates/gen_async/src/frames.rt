@@ -7,7 +7,7 @@ use std::marker::Model;
 /// A frame on a queue. A contract sees the bytes of its parcels.
 #[derive(Drop)]
 pub(crate) struct Frame {
-    parcels: Vec<Parcel>,
+    pub(crate) parcels: Vec<Parcel>,
 }
 
 impl Model for Frame {
@@ -19,13 +19,6 @@ impl Model for Frame {
 }
 
 impl Frame {
-    /// Returns the frame of these parcels.
-    pub(crate) fn new(parcels: Vec<Parcel>) -> Frame
-        ensures { result ≡ parcels.items }
-    {
-        Frame { parcels }
-    }
-
     /// Returns the parcels of the frame.
     pub(crate) fn parcels(&self) -> &[Parcel]
         ensures { result.now ≡ self.now }

@@ -8,11 +8,12 @@ ghost use Rattle.gen_async.specs.Decided.{AreBytesOf};
 ghost use Rattle.gen_async.specs.declared.acts.Act.{Act as Does};
 
 use crate::acts::Act;
-use crate::decided::decide_behind;
+use crate::decided::received_in;
 use gen_log::Entry;
 use gen_net::Header;
 use gen_scenario::Scenario;
-use gen_types::{GeneralNo, OrderNo};
+use gen_tree::sizes::signature_bytes;
+use gen_types::{Choice, GeneralNo, OrderNo, OrderSet};
 use std::alloc::AllocError;
 use std::marker::Model;
 use std::snapshot::Snapshot;
@@ -52,27 +53,27 @@ impl Played {
         })
     }
 
-    /// Returns the own order of a general, which only the commander has.
-    fn own(&self, me: GeneralNo) -> Option<OrderNo>
-        ensures { result ≡ own_order self.now me }
-    {
-        if me.get() == 0 {
-            Some(self.order)
-        } else {
-            None
-        }
-    }
-
-    /// Returns the DECIDE entry behind these entries of a general, if the general has no act left.
+    /// Returns the DECIDE entry behind these entries of a general, if the general has no act left. The commander
+    /// decides its own order alone, a lieutenant the choice from the orders of the RECVs among the entries.
     pub(crate) fn decide(&self, next: Option<Act>, me: GeneralNo, written: &[u8]) -> Option<Entry>
         ensures acting { (act : Does) → next ≡ Some act → result ≡ None }
         ensures done { next ≡ None → (entries : List Said)
             → AreBytesOf (header_of self.now) entries written.now
             → result ≡ Some (decide_entry self.now.net (own_order self.now me) entries) }
     {
-        match next {
-            Some(_) => None,
-            None => Some(decide_behind(&self.header, self.own(me), written)),
+        if next.is_some() {
+            return None;
         }
+        if me.get() == 0 {
+            return Some(Entry::Decide {
+                orders: OrderSet::only(self.order),
+                order: self.order,
+            });
+        }
+        let orders = received_in(signature_bytes(self.header.height()), written);
+        Some(Entry::Decide {
+            orders,
+            order: self.header.net().choice().choose(orders),
+        })
     }
 }

@@ -1,7 +1,7 @@
 //! What the shown logs say was decided, as JSON.
-ghost use Rattle.std.specs.Prelude.{◌≡◌, ◌++◌, IfOk, OnOk, map};
+ghost use Rattle.std.specs.Prelude.{◌≡◌, IfOk};
 ghost use Rattle.serde_json.specs.View.{view};
-ghost use Rattle.gen_json.specs.DecidedLogs.{decided_data, exhibit_decision, logs_data};
+ghost use Rattle.gen_json.specs.DecidedLogs.{decided_data, logs_data};
 
 use crate::objects::ObjectBuilder;
 use gen_local::Exhibit;
@@ -23,28 +23,6 @@ pub fn decided_value(entries: &[Entry]) -> Value
     }
 }
 
-/// Appends what an exhibit decided; nothing if it doesn't read as a log.
-fn push_decision(
-    alloc: Global,
-    list: &mut Vec<Value>,
-    header: &Header,
-    exhibit: &Exhibit,
-) -> Result<(), AllocError>
-    ensures { OnOk result (map view list.new.items
-        ≡ map view list.old.items ++ exhibit_decision header.now exhibit.now) }
-{
-    match read_log(alloc, header, exhibit.log()) {
-        Ok(log) => {
-            let mut object = ObjectBuilder::new(alloc);
-            object.put("general", Value::from(exhibit.general().get()));
-            object.put("order", decided_value(log.entries()));
-            serde_json::push(list, object.finish()?)
-        }
-        Err(ReadError::Memory) => Err(AllocError),
-        Err(ReadError::Fault(_)) => Ok(()),
-    }
-}
-
 /// Returns what each log that reads decided, in the order of the exhibits.
 ///
 /// # Errors
@@ -55,7 +33,16 @@ pub fn logs_value(alloc: Global, header: &Header, exhibits: &[Exhibit]) -> Resul
 {
     let mut list = Vec::new(alloc);
     for exhibit in exhibits {
-        push_decision(alloc, &mut list, header, exhibit)?;
+        match read_log(alloc, header, exhibit.log()) {
+            Ok(log) => {
+                let mut object = ObjectBuilder::new(alloc);
+                object.put("general", Value::from(exhibit.general().get()));
+                object.put("order", decided_value(log.entries()));
+                serde_json::push(&mut list, object.finish()?)?;
+            }
+            Err(ReadError::Memory) => return Err(AllocError),
+            Err(ReadError::Fault(_)) => {}
+        }
     }
     Ok(Value::Array(list))
 }

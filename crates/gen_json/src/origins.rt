@@ -1,5 +1,5 @@
 //! Where an answer comes from, as JSON.
-ghost use Rattle.std.specs.Prelude.{◌≡◌, IfOk, false, map, option_map, string_bytes};
+ghost use Rattle.std.specs.Prelude.{◌≡◌, IfOk, false, option_map};
 ghost use Rattle.serde_json.specs.Data.{object, string};
 ghost use Rattle.serde_json.specs.View.{members_view, view};
 ghost use Rattle.gen_json.specs.JsonData.{digits_data, list_of, numbers_data};
@@ -39,29 +39,6 @@ impl Model for Origin {
       faulty = o.faulty;
       runs = option_map (λ ids. ids.items) o.runs;
     } };
-}
-
-/// Returns a copy of a name, if there is one.
-fn copied_name(alloc: Global, name: Option<&str>) -> Result<Option<String>, AllocError>
-    ensures { IfOk result (λ copy. option_map string_bytes copy ≡ option_map (λ t. t.now) name.entry) }
-{
-    match name {
-        Some(name) => Ok(Some(String::from_str(alloc, name)?)),
-        None => Ok(None),
-    }
-}
-
-/// Returns a copy of run ids, if there are any.
-fn copied_runs(
-    alloc: Global,
-    runs: Option<&[[u8; 32]]>,
-) -> Result<Option<Vec<[u8; 32]>>, AllocError>
-    ensures { IfOk result (λ copy. option_map (λ ids. ids.items) copy ≡ option_map (λ ids. ids.now) runs.entry) }
-{
-    match runs {
-        Some(ids) => Ok(Some(Vec::from_slice(alloc, ids)?)),
-        None => Ok(None),
-    }
 }
 
 /// Returns a text, and null if there is none.
@@ -112,8 +89,14 @@ impl Origin {
         ensures { IfOk result (λ o. o ≡ origin_of (option_map (λ t. t.now) name.entry) input.now
             faulty (option_map (λ ids. ids.now) runs.entry)) }
     {
-        let name = copied_name(alloc, name)?;
-        let runs = copied_runs(alloc, runs)?;
+        let name = match name {
+            Some(name) => Some(String::from_str(alloc, name)?),
+            None => None,
+        };
+        let runs = match runs {
+            Some(ids) => Some(Vec::from_slice(alloc, ids)?),
+            None => None,
+        };
         Ok(Origin {
             name,
             bytes: input.len(),
@@ -121,16 +104,6 @@ impl Origin {
             faulty,
             runs,
         })
-    }
-
-    /// Returns the input's name, if it has one.
-    fn name(&self) -> Option<&str>
-        ensures { option_map (λ t. t.now) result ≡ self.now.name }
-    {
-        match &self.name {
-            Some(name) => Some(name.as_str()),
-            None => None,
-        }
     }
 }
 
@@ -153,7 +126,7 @@ pub fn finish_from(
     asked.put_made("runs", ids_or_null(alloc, &origin.runs));
     let mut input = ObjectBuilder::new(alloc);
     input.put("bytes", Value::from(origin.bytes));
-    input.put_made("name", text_or_null(alloc, origin.name()));
+    input.put_made("name", text_or_null(alloc, origin.name.as_deref()));
     input.put_made("sha256", digits_value(alloc, &origin.digest));
     let mut object = answer;
     object.put_made("asked", asked.finish());

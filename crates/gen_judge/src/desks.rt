@@ -13,8 +13,10 @@ use gen_desk::{Desk, Row};
 use gen_log::SealedLog;
 use gen_scenario::Scenario;
 use gen_threads::Gate;
+use sha_lanes::LANES;
 use std::alloc::Global;
 use std::sync::Wait;
+use std::sync::atomic::AtomicBool;
 use std::thread::Threads;
 
 /// A run at a desk: its logs, and what stands at the places of the desk, if the desk knows all receipts.
@@ -46,7 +48,10 @@ pub(crate) fn run_at_desk<R: Threads + Wait + Sync, G: Gate + Sync, J: JobGate +
     let mut tray = Tray::new(alloc, places)?;
     let (desk, slips) = Desk::new(alloc, places)?;
     tray.put_slips(slips);
-    let stop = StopWord::new();
+    let stop = StopWord {
+        set: AtomicBool::new(false),
+        refused: AtomicBool::new(false),
+    };
     let filing = FilingGate {
         rt,
         gate,
@@ -55,17 +60,15 @@ pub(crate) fn run_at_desk<R: Threads + Wait + Sync, G: Gate + Sync, J: JobGate +
         tray: &tray,
         stop: &stop,
     };
+    // A worker claims its share of the places at a time, but no more than the logs that are hashed side by side. So
+    // no worker takes what another could report on meanwhile.
+    let share = places.div_ceil(workers.get());
+    let crew = Crew {
+        workers: workers.get(),
+        most: share.min(LANES).max(1),
+    };
     let logs = run_beside(
-        rt,
-        alloc,
-        scenario,
-        capacity,
-        Crew::new(workers, places),
-        &desk,
-        &tray,
-        &stop,
-        &filing,
-        job_gate,
+        rt, alloc, scenario, capacity, crew, &desk, &tray, &stop, &filing, job_gate,
     )?;
     let rows = match desk.close(tray.into_receipts()) {
         Ok(filed) => Some(filed.into_rows()),

@@ -6,7 +6,6 @@
 #![tactic(auto)]
 
 mod beside;
-mod bundles;
 mod desks;
 mod filing;
 mod judging;

@@ -8,10 +8,10 @@ ghost use Rattle.gen_audit.specs.Headline.{Headline};
 ghost use Rattle.gen_audit.specs.Verdict.{IsVerdict};
 ghost use Rattle.gen_audit.specs.WorldBundle.{run_bundle};
 
-use crate::bundles::bundle_of_run;
 use crate::desks::{FiledRun, run_at_desk};
 use crate::judging::judge_by;
 use gen_audit::{AuditFault, Bundle, JobGate, Judgement, WorkerCount};
+use gen_local::exhibits_of_logs;
 use gen_scenario::Scenario;
 use gen_threads::Gate;
 use gen_types::GeneralSet;
@@ -72,7 +72,10 @@ pub fn run_and_audit_bundle<R: Threads + Wait + Sync, G: Gate + Sync, J: JobGate
     let FiledRun { logs, rows } = run_at_desk(
         rt, alloc, scenario, capacity, workers, gate, job_gate,
     )?;
-    let bundle = bundle_of_run(alloc, scenario, faulty, walks, logs)?;
+    let header = scenario.header().clone()?;
+    let copied = walks.clone()?;
+    let exhibits = exhibits_of_logs(alloc, logs)?;
+    let bundle = Bundle::new(header, *faulty, copied, exhibits).unwrap();
     let judgement = judge_by(rt, alloc, &bundle, rows, workers, job_gate)?;
     Ok((bundle, judgement))
 }

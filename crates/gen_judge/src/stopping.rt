@@ -12,14 +12,6 @@ pub(crate) struct StopWord {
 }
 
 impl StopWord {
-    /// Returns a stop word that is not set.
-    pub(crate) fn new() -> StopWord {
-        StopWord {
-            set: AtomicBool::new(false),
-            refused: AtomicBool::new(false),
-        }
-    }
-
     /// Sets the word, and wakes all threads that wait at the desk.
     pub(crate) fn set(&self, desk: &Desk) {
         self.set.store(true, Ordering::SeqCst);

@@ -2,12 +2,11 @@
 ghost use Rattle.gen_chain.specs.Store.{Serves};
 
 use crate::stopping::StopWord;
-use gen_audit::{JobGate, WorkerCount};
+use gen_audit::JobGate;
 use gen_chain::VerifyStore;
 use gen_desk::{Desk, DeskFault, Ticket};
 use gen_local::{LocalReport, local_reports};
 use gen_net::Header;
-use sha_lanes::LANES;
 use std::alloc::{AllocError, Global};
 use std::sync::Wait;
 use std::sync::atomic::Ordering;
@@ -23,20 +22,6 @@ pub(crate) struct Crew {
     pub(crate) workers: usize,
     /// How many places a worker claims at a time, at most.
     pub(crate) most: usize,
-}
-
-impl Crew {
-    /// Returns the crew of this many workers for a desk with this many places. A worker claims its share of the places
-    /// at a time, but at least one and at most `LANES`, the number of logs that are hashed side by side. So no worker
-    /// takes what another could report on meanwhile.
-    pub(crate) fn new(workers: WorkerCount, places: usize) -> Crew {
-        let workers = workers.get();
-        let share = places.div_ceil(workers);
-        Crew {
-            workers,
-            most: share.min(LANES).max(1),
-        }
-    }
 }
 
 /// Claims up to `most` places that are filed and not yet claimed. A worker that has some, but fewer than `most`, lets

@@ -1,5 +1,5 @@
 -- Sets of generals in their order, and what cuts them apart.
-use Rattle.std.proofs.Common.{◌≡◌, ℕ, zero, suc, ◌+◌, ◌<◌, ◌≤◌, ◌^◌, inl, inr, List, length, filter, Contains, sym, ap, subst, ◌∙◌, arith}
+use Rattle.std.proofs.Common.{◌≡◌, ℕ, zero, suc, ◌+◌, ◌-◌, ◌*◌, ◌%◌, ◌<◌, ◌≤◌, ◌^◌, Option, Some, None, SomeIff, inl, inr, List, length, filter, Contains, sym, ap, subst, ◌∙◌, arith, rules}
 use Rattle.std.specs.List.{range_with_len}
 use Rattle.std.proofs.lemmas.List.FromFn.{length-range_with_len}
 use Rattle.std.proofs.lemmas.Bool.{cases_eq}
@@ -14,8 +14,8 @@ use Rattle.gen_types.specs.Members.{filter_range_has, filter_range_gives, filter
 use Rattle.gen_types.proofs.Among.{among_in, in_among}
 use Rattle.gen_types.proofs.BitSteps.{members_back}
 use Rattle.gen_types.proofs.Lists.{length-le_from_distinct, Contains_in_range}
-use Rattle.gen_plan.specs.Plans.{AreJoinedBy, Withstands, IsSetOf, IsLeastApart, IsFirstCut}
-use Rattle.gen_plan.specs.Loops.Cuts.{IsCutOf, AllOfSizeStand, IsFirstOfSize}
+use Rattle.gen_plan.specs.Plans.{AreJoinedBy, Withstands, IsSetOf, IsLeastApart, IsFirstCut, IsMostTraitors}
+use Rattle.gen_plan.specs.Loops.Cuts.{AllOfSizeStand, IsFirstOfSize}
 use Rattle.gen_plan.specs.declared.plans.Cut.{Cut}
 use Rattle.gen_plan.proofs.Short.{withstands_short}
 
@@ -36,6 +36,15 @@ set_back net ok set is = let few : net.generals ≤ 16 = ok.ranges.few_generals 
 
 pub set_number : (net : Network) (set : List ℕ) → IsSetOf net set → bits_of set < 2 ^ net.generals
 set_number net set is = bits_below net.generals set is.inside
+
+-- there are at most 65,536 sets
+pub sets_fit : (net : Network) → IsNetwork net → (count : ℕ) → count ≡ net.generals → ((1 * 2 ^ count) % 4294967296 ≡ 2 ^ net.generals) × (2 ^ net.generals ≤ 65536)
+sets_fit net ok count is =
+    let few : net.generals ≤ 16 = ok.ranges.few_generals in
+    rw is (pow_fits net.generals few)
+  where
+    pow_fits : (n : ℕ) → n ≤ 16 → ((1 * 2 ^ n) % 4294967296 ≡ 2 ^ n) × (2 ^ n ≤ 65536)
+    pow_fits n few = (search rules, search rules)
 
 pub set_few : (net : Network) → IsNetwork net → (set : List ℕ) → IsSetOf net set → length set < 256
 set_few net ok set is =
@@ -65,13 +74,13 @@ all_stand net count diameter bits all so set of size = so set of size (let l = s
 
 pub first_of_size : (net : Network) → IsNetwork net → (count diameter bits : ℕ) (tried : List ℕ) → tried ≡ members_of bits
     → bits_of (members_of bits) ≡ bits → bits < 2 ^ net.generals → StandBelow net count diameter bits
-    → (cut : Cut) → IsCutOf net count diameter tried cut → IsFirstOfSize net count diameter cut
-first_of_size net ok count diameter bits tried is number small so cut of =
-    let whole : cut.faulty ≡ members_of bits = of.set ∙ is in
+    → (cut : Cut) → cut.faulty ≡ tried → length tried ≡ count → IsLeastApart net tried diameter cut.a cut.b → IsFirstOfSize net count diameter cut
+first_of_size net ok count diameter bits tried is number small so cut same size_is pair_is =
+    let whole : cut.faulty ≡ members_of bits = same ∙ is in
     record {
       set = subst (IsSetOf net) (sym whole) (set_of_bits net bits small);
-      size = ap length of.set ∙ of.size;
-      pair = subst (λ xs. IsLeastApart net xs diameter cut.a cut.b) (sym of.set) of.pair;
+      size = ap length same ∙ size_is;
+      pair = subst (λ xs. IsLeastApart net xs diameter cut.a cut.b) (sym same) pair_is;
       first = λ other is_set size below.
           let at : bits_of cut.faulty ≡ bits = ap bits_of whole ∙ number in
           so other is_set size (omega (arith, at, below));
@@ -152,6 +161,15 @@ some_traitors net diameter faulty a b most cut size = (
   withstands net (length faulty) most diameter (omega (arith, size)) (λ set of fewer. cut.first set of (inl fewer)),
   λ traitors more. not_withstood net diameter faulty a b traitors cut (omega (arith, size, more)),
 )
+
+-- one fewer than the first set that cuts has, if it has one
+pub most_told : (net : Network) (diameter : ℕ) (faulty : List ℕ) (a b count : ℕ) (found : Option ℕ) → IsFirstCut net diameter faulty a b
+    → count ≡ length faulty → SomeIff found (1 ≤ count) (count - 1) → IsMostTraitors net diameter found
+most_told net diameter faulty a b count (Some most) cut size told = some_traitors net diameter faulty a b most cut (omega (arith, size, told.0, told.1))
+most_told net diameter faulty a b count None cut size told = no_traitors net diameter faulty a b cut (none_left told)
+  where
+    none_left : (1 ≤ count → ⊥) → length faulty ≡ 0
+    none_left few = elim (cases_lt 0 count) [ inl l ↦ absurd (few l) | inr none ↦ omega (arith, none, size) ]
 
 -- a greater diameter withstands what a lesser does
 pub withstands_more : (net : Network) (traitors less more : ℕ) → less ≤ more → Withstands net traitors less → Withstands net traitors more

@@ -1,14 +1,14 @@
 -- The first parted pair is the least pair of the rest that few edges do not join.
-use Rattle.std.proofs.Common.{◌≡◌, ℕ, zero, suc, ◌+◌, ◌<◌, ◌≤◌, ◌⊎◌, inl, inr, Bool, true, false, not, ◌&&◌, ◌||◌, ◌==◌, nat_lt, List, [], ◌∷◌, ◌++◌, Contains, refl, sym, ap, subst, ◌∙◌, arith, Option, Some, None, IfSome, IfNone}
+use Rattle.std.proofs.Common.{◌≡◌, ℕ, zero, suc, ◌+◌, ◌<◌, ◌⊎◌, inl, inr, Bool, true, false, not, ◌&&◌, ◌==◌, nat_lt, List, [], ◌∷◌, ◌++◌, Contains, refl, sym, ap, subst, ◌∙◌, arith, Option, Some, None, IfSome, IfNone}
 use Rattle.std.specs.Bool.{Decides}
 use Rattle.std.specs.List.{flat_map, list_any, range_with_len}
 use Rattle.std.proofs.lemmas.Bool.{eqb-true, eq-eqb, or_cases, or_left, or_right, and_parts, and_from, false_from_ne_true}
-use Rattle.std.proofs.lemmas.Bool.Decides.{Decides-and, Decides-not, Decides-like, Decides-eqb, Decides-ltb, Decides-below_or, not_from_Decides}
+use Rattle.std.proofs.lemmas.Bool.Decides.{Decides-and, Decides-not, Decides-like, Decides-eqb, Decides-ltb, Decides-below_or}
 use Rattle.gen_types.specs.Ends.{is_among}
 use Rattle.gen_types.specs.Members.{Contains_here, Contains_there, Contains_cases, Contains_nil}
 use Rattle.gen_types.proofs.Among.{among_in, in_among}
 use Rattle.gen_net.specs.Edges.{joins}
-use Rattle.gen_net.specs.Network.{Network, AreNeighbours, IsLoyal}
+use Rattle.gen_net.specs.Network.{Network, AreNeighbours}
 use Rattle.gen_net.specs.Walks.{IsWalk}
 use Rattle.gen_plan.specs.EqualRoots.{first_pair}
 use Rattle.gen_plan.specs.Plans.{IsJoinedBy, AreJoinedBy, IsLeastApart}

@@ -60,6 +60,17 @@ step_more net faulty set steps more both number so one list =
       ]),
     ))
 
+-- a general by whom no step is taken adds none
+pub step_passed : (net : Network) (faulty set steps : List ℕ) (number : ℕ) → IsListOf steps (StepsBelow net faulty set number)
+    → ((a : ℕ) → IsStep net faulty set a number → ⊥) → IsListOf steps (StepsBelow net faulty set (number + 1))
+step_passed net faulty set steps number so none = listed_as steps (StepsBelow net faulty set number) (StepsBelow net faulty set (number + 1)) so (λ a. (
+  (λ s. (s.0, omega (arith, s.1), s.2)),
+  (λ s. elim (cases_eq s.0 number) [
+    | inl e ↦ absurd (none a (subst (λ via. IsStep net faulty set a via) e s.2))
+    | inr ne ↦ (s.0, omega (arith, s.1), s.2)
+  ]),
+))
+
 pub all_steps : (net : Network) → IsNetwork net → (faulty set steps both : List ℕ) (number : ℕ) → net.generals ≤ number
     → IsListOf steps (StepsBelow net faulty set number)
     → IsListOf both (λ a. Contains set a ⊎ Contains steps a)

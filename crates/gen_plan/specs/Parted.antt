@@ -1,5 +1,5 @@
 -- The first two generals of the rest that no walk of at most d edges joins.
-use Rattle.std.specs.Prelude.{ℕ, zero, suc, ◌+◌, Bool, false, not, ◌&&◌, ◌||◌, ◌==◌, nat_lt, cond, List, [], ◌∷◌, Option}
+use Rattle.std.specs.Prelude.{ℕ, zero, suc, Bool, false, not, ◌&&◌, ◌||◌, ◌==◌, nat_lt, cond, List, [], ◌∷◌, Option}
 use Rattle.std.specs.List.{flat_map, list_any, range_with_len}
 use Rattle.gen_types.specs.Ends.{is_among}
 use Rattle.gen_net.specs.Edges.{joins}

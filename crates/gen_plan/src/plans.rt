@@ -3,7 +3,7 @@ ghost use Rattle.std.specs.Prelude.{ℕ, ◌≡◌, ◌≤◌, ◌<◌, ◌^◌,
 ghost use Rattle.gen_plan.specs.Plans.{AreJoinedBy, Withstands, IsFirstCut, IsLeastDiameter, IsMostTraitors};
 ghost use Rattle.gen_net.specs.Network.{IsNetwork};
 ghost use Rattle.gen_plan.specs.PlanResults.{IsPlanResult};
-ghost use Rattle.gen_plan.specs.Loops.Cuts.{IsCutOf, IsFirstOfSize, AllOfSizeStand};
+ghost use Rattle.gen_plan.specs.Loops.Cuts.{IsFirstOfSize, AllOfSizeStand};
 
 use crate::graph::Graph;
 use crate::search::first_apart;
@@ -45,37 +45,19 @@ struct Cut {
     b: GeneralNo,
 }
 
-/// Returns the least pair that is not joined by at most `diameter` edges, if the set has `count` members and there is
-/// such a pair.
-fn cut_by(graph: &Graph, faulty: GeneralSet, count: usize, diameter: u8) -> Option<Cut>
-    ensures some { IfSome result (λ cut. IsCutOf graph.now count diameter faulty cut) }
-    ensures none { IfNone result (length faulty ≡ count → AreJoinedBy graph.now faulty diameter) }
-{
-    if faulty.len() != count {
-        return None;
-    }
-    let (a, b) = first_apart(graph, &faulty, diameter)?;
-    Some(Cut { faulty, a, b })
-}
-
-/// Returns how many sets of generals there are, at most 65,536.
-fn number_of_sets(graph: &Graph) -> u32
-    ensures value { result ≡ 2 ^ graph.now.generals }
-    ensures few { result ≤ 65536 }
-    ensures network { IsNetwork graph.now }
-{
-    1 << graph.generals()
-}
-
 /// Returns the first set of `count` generals that leaves a pair that is not joined by at most `diameter` edges.
 fn first_of_size(graph: &Graph, count: usize, diameter: u8) -> Option<Cut>
     ensures some { IfSome result (IsFirstOfSize graph.now count diameter) }
     ensures none { IfNone result (AllOfSizeStand graph.now count diameter) }
 {
-    for bits in 0..number_of_sets(graph) {
+    let number_of_sets = 1u32 << graph.generals();
+    for bits in 0..number_of_sets {
         let faulty = GeneralSet::from_bits(bits as u16);
-        if let Some(cut) = cut_by(graph, faulty, count, diameter) {
-            return Some(cut);
+        if faulty.len() != count {
+            continue;
+        }
+        if let Some((a, b)) = first_apart(graph, &faulty, diameter) {
+            return Some(Cut { faulty, a, b });
         }
     }
     None
@@ -110,19 +92,6 @@ fn least_diameter(graph: &Graph, traitors: u8, diameter: u8) -> Option<u8>
     None
 }
 
-/// Returns the most faulty generals that would do with this diameter: one fewer than the first set that cuts has.
-fn most_traitors(graph: &Graph, diameter: u8, cut: &Cut) -> Option<u8>
-    requires network { IsNetwork graph.now }
-    requires cut { IsFirstCut graph.now diameter cut.now.faulty cut.now.a cut.now.b }
-    ensures { IsMostTraitors graph.now diameter result }
-{
-    let members = cut.faulty.len();
-    if members == 0 {
-        return None;
-    }
-    Some(members as u8 - 1)
-}
-
 /// Says whether the plan of a network holds: whichever at most m of its generals are faulty, any two others are joined by
 /// at most d edges through others. It takes no memory.
 pub fn plan_of(net: &Net) -> PlanResult
@@ -139,6 +108,6 @@ pub fn plan_of(net: &Net) -> PlanResult
         a: cut.a,
         b: cut.b,
         least_diameter: least_diameter(&graph, traitors, diameter),
-        most_traitors: most_traitors(&graph, diameter, &cut),
+        most_traitors: (cut.faulty.len() as u8).checked_sub(1),
     })
 }

@@ -16,28 +16,6 @@ fn share_root(header: &Header, a: GeneralNo, b: GeneralNo) -> bool
     a.get() < b.get() && header.root(a) == header.root(b)
 }
 
-/// Puts the pairs of a and each general behind it that shares its root behind the pairs.
-///
-/// # Errors
-///
-/// AllocError if and only if memory was refused.
-fn push_pairs_of(
-    header: &Header,
-    a: GeneralNo,
-    pairs: &mut Vec<(GeneralNo, GeneralNo)>,
-) -> Result<(), AllocError>
-    requires { a < header.now.network.generals }
-    ensures { IfOk result (λ _. pairs.new.items ≡ pairs.old.items ++ pairs_of header.now a) }
-{
-    for number in 0..header.net().generals() {
-        let b = GeneralNo::at(number);
-        if share_root(header, a, b) {
-            pairs.push((a, b))?;
-        }
-    }
-    Ok(())
-}
-
 /// Returns the pairs a < b of generals of a header that have equal roots, in ascending order. Two generals with equal
 /// roots are one owner of keys that is counted as two.
 ///
@@ -51,24 +29,17 @@ pub fn equal_roots(
     ensures { IfOk result (λ pairs. pairs.items ≡ equal_roots header.now) }
 {
     let mut pairs = Vec::new(alloc);
-    for number in 0..header.net().generals() {
-        push_pairs_of(header, GeneralNo::at(number), &mut pairs)?;
-    }
-    Ok(pairs)
-}
-
-/// Returns the pair of a and the least general behind it that shares its root, if there is one.
-fn first_pair_of(header: &Header, a: GeneralNo) -> Option<(GeneralNo, GeneralNo)>
-    requires { a < header.now.network.generals }
-    ensures { result ≡ first_pair (pairs_of header.now a) }
-{
-    for number in 0..header.net().generals() {
-        let b = GeneralNo::at(number);
-        if share_root(header, a, b) {
-            return Some((a, b));
+    let generals = header.net().generals();
+    for lesser in 0..generals {
+        let a = GeneralNo::at(lesser);
+        for greater in 0..generals {
+            let b = GeneralNo::at(greater);
+            if share_root(header, a, b) {
+                pairs.push((a, b))?;
+            }
         }
     }
-    None
+    Ok(pairs)
 }
 
 /// Returns the least pair a < b of generals of a header that have equal roots, or None if each general has a root of
@@ -76,9 +47,14 @@ fn first_pair_of(header: &Header, a: GeneralNo) -> Option<(GeneralNo, GeneralNo)
 pub fn first_equal_roots(header: &Header) -> Option<(GeneralNo, GeneralNo)>
     ensures { result ≡ first_pair (equal_roots header.now) }
 {
-    for number in 0..header.net().generals() {
-        if let Some(pair) = first_pair_of(header, GeneralNo::at(number)) {
-            return Some(pair);
+    let generals = header.net().generals();
+    for lesser in 0..generals {
+        let a = GeneralNo::at(lesser);
+        for greater in 0..generals {
+            let b = GeneralNo::at(greater);
+            if share_root(header, a, b) {
+                return Some((a, b));
+            }
         }
     }
     None

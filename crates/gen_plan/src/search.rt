@@ -15,17 +15,6 @@ fn either(a: &GeneralSet, b: &GeneralSet) -> GeneralSet
     GeneralSet::from_bits(a.bits() | b.bits())
 }
 
-/// Returns the set of the generals from which an edge leads to the general `via`, if `via` is a member of the set and
-/// not faulty; else the empty set.
-fn step_by(graph: &Graph, faulty: &GeneralSet, set: &GeneralSet, via: GeneralNo) -> GeneralSet
-    ensures { IsListOf result (λ a. IsStep graph.now faulty.now set.now a via) }
-{
-    if set.contains(via) && !faulty.contains(via) {
-        return graph.neighbours(via);
-    }
-    GeneralSet::new()
-}
-
 /// Returns the set with each general from which an edge leads to a member that is of the rest.
 fn spread(graph: &Graph, faulty: &GeneralSet, set: &GeneralSet) -> GeneralSet
     ensures wider { IsListOf result (λ a.
@@ -34,7 +23,10 @@ fn spread(graph: &Graph, faulty: &GeneralSet, set: &GeneralSet) -> GeneralSet
 {
     let mut steps = GeneralSet::new();
     for number in 0..graph.generals() {
-        steps = either(&steps, &step_by(graph, faulty, set, GeneralNo::at(number)));
+        let via = GeneralNo::at(number);
+        if set.contains(via) && !faulty.contains(via) {
+            steps = either(&steps, &graph.neighbours(via));
+        }
     }
     either(set, &steps)
 }
@@ -48,13 +40,6 @@ pub(crate) fn joined_to(graph: &Graph, faulty: &GeneralSet, to: GeneralNo, most:
         set = spread(graph, faulty, &set);
     }
     set
-}
-
-/// Returns whether b stands behind a, and is neither faulty nor joined.
-fn is_apart(faulty: &GeneralSet, joined: &GeneralSet, a: GeneralNo, b: GeneralNo) -> bool
-    ensures { IsTrue result ↔ IsBehindApart faulty.now joined.now a b }
-{
-    a < b && !faulty.contains(b) && !joined.contains(b)
 }
 
 /// Returns the least general of the rest behind the general a that no walk of at most `most` edges joins to it, if a is
@@ -71,7 +56,7 @@ fn first_apart_from(graph: &Graph, faulty: &GeneralSet, a: GeneralNo, most: u8) 
     let joined = joined_to(graph, faulty, a, most);
     for number in 0..graph.generals() {
         let b = GeneralNo::at(number);
-        if is_apart(faulty, &joined, a, b) {
+        if a.get() < b.get() && !faulty.contains(b) && !joined.contains(b) {
             return Some(b);
         }
     }

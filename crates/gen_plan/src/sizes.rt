@@ -44,27 +44,18 @@ fn most_neighbours(graph: &Graph) -> usize
     most
 }
 
-/// Returns the most bytes of the entries of one order that came from one neighbour.
-#[tactic(auto, unfolding(crate::specs::Sizes::order_most))]
-fn order_most(height: TreeHeight, rounds: u8) -> usize
-    requires { rounds ≤ 16 }
-    ensures value { result ≡ order_most height rounds }
-    ensures small { result < 2 ^ 32 }
-{
-    let rounds = usize::from(rounds);
-    4 + 5 * rounds + signers_bytes(height, 1) * (rounds * (rounds + 1) / 2)
-}
-
 /// Returns the most bytes of the log of a general with this many neighbours.
-#[tactic(auto, unfolding(crate::specs::Sizes::log_most))]
+#[tactic(auto, unfolding(crate::specs::Sizes::log_most, crate::specs::Sizes::order_most))]
 fn log_most(height: TreeHeight, net: &Net, neighbours: usize) -> usize
     requires { neighbours ≤ 16 }
     ensures { result ≡ log_most height net.now neighbours }
 {
     let signer = signers_bytes(height, 1);
     let orders = usize::from(net.orders());
-    let values = orders * (2 + usize::from(net.rounds()) + signer);
-    46 + signer + values + neighbours * orders * order_most(height, net.rounds())
+    let rounds = usize::from(net.rounds());
+    let values = orders * (2 + rounds + signer);
+    let order = 4 + 5 * rounds + signer * (rounds * (rounds + 1) / 2);
+    46 + signer + values + neighbours * orders * order
 }
 
 /// Returns how many edges a general is away from general 0, if these are fewer than `rounds`.
@@ -81,18 +72,8 @@ fn away(graph: &Graph, rounds: u8, general: GeneralNo) -> Option<u8>
     None
 }
 
-/// Returns to how many of its neighbours a general sends a message, so many edges away from general 0.
-fn receivers(neighbours: usize, edges: u8) -> usize
-    ensures value { result ≡ receivers neighbours edges }
-    ensures few { result ≤ neighbours }
-{
-    if edges == 0 {
-        return neighbours;
-    }
-    neighbours.saturating_sub(1)
-}
-
-/// Returns the bytes of the parcels of the message that a general sends, so many edges away from general 0.
+/// Returns the bytes of the parcels of the message that a general sends, so many edges away from general 0: general 0
+/// sends it to each neighbour, another not to that from which it came.
 #[tactic(auto, unfolding(crate::specs::Sizes::message_bytes))]
 fn message_bytes(height: TreeHeight, neighbours: usize, edges: u8) -> usize
     requires neighbours { neighbours ≤ 16 }
@@ -100,30 +81,16 @@ fn message_bytes(height: TreeHeight, neighbours: usize, edges: u8) -> usize
     ensures value { result ≡ message_bytes height neighbours edges }
     ensures small { result < 2 ^ 40 }
 {
-    receivers(neighbours, edges) * parcel_most(height, edges + 1)
+    let receivers = if edges == 0 {
+        neighbours
+    } else {
+        neighbours.saturating_sub(1)
+    };
+    receivers * parcel_most(height, edges + 1)
 }
 
-/// Returns the bytes of the parcels of a general's message; none if it comes too late to be sent on.
-fn message_of(
-    graph: &Graph,
-    height: TreeHeight,
-    count: u8,
-    neighbours: usize,
-    general: GeneralNo,
-) -> usize
-    requires neighbours { neighbours ≤ 16 }
-    requires few { count ≤ 16 }
-    requires rounds { count ≡ rounds graph.now }
-    ensures value { IsMessage height graph.now general neighbours result }
-    ensures small { result < 2 ^ 40 }
-{
-    match away(graph, count, general) {
-        Some(edges) => message_bytes(height, neighbours, edges),
-        None => 0,
-    }
-}
-
-/// Returns the bytes that a general sends in a run in which each is correct.
+/// Returns the bytes that a general sends in a run in which each is correct: its frames, and its message, if that does
+/// not come too late to be sent on.
 fn sent_by(graph: &Graph, height: TreeHeight, count: u8, general: GeneralNo) -> usize
     requires few { count ≤ 16 }
     requires rounds { count ≡ rounds graph.now }
@@ -132,7 +99,10 @@ fn sent_by(graph: &Graph, height: TreeHeight, count: u8, general: GeneralNo) -> 
 {
     let neighbours = neighbours_of(graph, general);
     let frames = neighbours * usize::from(count) * EMPTY_FRAME;
-    frames + message_of(graph, height, count, neighbours, general)
+    match away(graph, count, general) {
+        Some(edges) => frames + message_bytes(height, neighbours, edges),
+        None => frames,
+    }
 }
 
 /// Returns the bytes that all generals send in a run in which each is correct.

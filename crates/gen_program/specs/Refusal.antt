@@ -8,7 +8,7 @@ use Rattle.gen_ends.specs.declared.ends.JobEnd.TheVariants.{Done, Failed}
 use Rattle.gen_ends.specs.declared.ends.JobFault.TheVariants as faults
 use Rattle.gen_words.specs.declared.words.WordsFault.{WordsFault}
 use Rattle.gen_words.specs.declared.words.WordsFault.TheVariants.{Memory, NotText, NoCommand, Words}
-use Rattle.gen_words.specs.declared.words.WordsFault.TheVariants.{BadCapacity, BadWorkers, BadGeneral, BadSlot, BadRun, BadFaulty, BadLog, TwoStandard}
+use Rattle.gen_words.specs.declared.words.WordsFault.TheVariants.{BadCapacity, BadWorkers, BadGeneral, BadSlot, BadRun, BadFaulty, BadLog, TwoStandard, Systems}
 use Rattle.gen_ends.specs.Ends.{status_of}
 
 -- the exit status for words that ask for no job
@@ -42,6 +42,7 @@ Refuses BadGeneral status = IsBlamed status
 Refuses BadSlot status = IsBlamed status
 Refuses BadLog status = IsBlamed status
 Refuses TwoStandard status = IsBlamed status
+Refuses (Systems inner) status = IsBlamed status
 Refuses BadRun status = IsBlamed status
 Refuses BadFaulty status = IsBlamed status
 Refuses (Words e) status = (AsksToShow e → IsShown status) × ((AsksToShow e → ⊥) → IsBlamed status)

@@ -13,6 +13,7 @@ mod naming;
 mod program;
 mod reading;
 mod sources;
+mod systems;
 mod terminals;
 mod watching;
 

@@ -12,13 +12,15 @@ use crate::ends::{end_with, end_written, fail_with, finish_seen, finish_unopened
 use crate::naming::do_and_tell;
 use crate::reading::{answer_files, join_files, tell_waiting};
 use crate::sources::{Source, source_of};
+use crate::systems::finish_systems;
 use crate::terminals::Terminals;
 use crate::watching::{WatchedReader, WatchedWriter};
 use clap::error::ErrorKind;
 use gen_asked::{Job, Telling};
 use gen_jobs::{JobEnd, JobFault, deliver, deliver_bundle, do_job};
 use gen_words::{
-    Several, WordsFault, fault_line, given_value, read_request, read_several, show_usage,
+    Several, WordsFault, fault_line, given_value, read_request, read_several, read_systems,
+    show_usage,
 };
 use std::alloc::{AllocError, Global};
 use std::fs::File;
@@ -74,21 +76,34 @@ fn answer<R: Files + Terminals + AllocGlobal + Input + Print + Eprint + Threads 
 {
     match read_several(rt.alloc(), words) {
         Ok(Some(several)) => finish_several(rt, &several),
-        Ok(None) => match read_request(rt.alloc(), words) {
-            Ok(request) => finish(rt, &request.job, request.file, request.prints_runs),
-            Err(fault) => {
-                if words.len() < 2 {
-                    show_usage(rt);
-                }
-                refuse(rt, &fault, given_value(rt.alloc(), words, &fault), built)
-            }
+        Ok(None) => match read_systems(rt.alloc(), words) {
+            Ok(Some(systems)) => finish_systems(rt, &systems),
+            Ok(None) => answer_request(rt, words, built),
+            Err(fault) => refuse(rt, &fault, None, built),
         },
         Err(fault) => refuse(rt, &fault, given_value(rt.alloc(), words, &fault), built),
     }
 }
 
+/// Does what words ask for that name one file at most, and returns the exit status.
+fn answer_request<
+    R: Files + Terminals + AllocGlobal + Input + Print + Eprint + Threads + Wait + Sync,
+>(rt: &R, words: &[&str], built: &Built<'_>) -> u8
+    ensures { IsStatus result }
+{
+    match read_request(rt.alloc(), words) {
+        Ok(request) => finish(rt, &request.job, request.file, request.prints_runs),
+        Err(fault) => {
+            if words.len() < 2 {
+                show_usage(rt);
+            }
+            refuse(rt, &fault, given_value(rt.alloc(), words, &fault), built)
+        }
+    }
+}
+
 /// Says on standard error that bytes would go to a terminal, and returns the exit status.
-fn refuse_terminal<R: Eprint>(rt: &R) -> u8
+pub(crate) fn refuse_terminal<R: Eprint>(rt: &R) -> u8
     ensures { IsStatus result }
 {
     let _ = eprintln!(rt;

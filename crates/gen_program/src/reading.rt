@@ -30,7 +30,7 @@ pub(crate) struct Failure<'a> {
 
 impl<'a> Failure<'a> {
     /// Returns the failure of which nothing more is told.
-    fn of_fault(fault: JobFault) -> Failure<'a>
+    pub(crate) fn of_fault(fault: JobFault) -> Failure<'a>
         ensures { result.fault ≡ fault }
     {
         Failure {
@@ -105,7 +105,7 @@ fn read_watched<'a, S: Read>(
 }
 
 /// Returns all bytes of a file, or of standard input for a minus.
-fn read_file<'a, R: Files + Terminals + AllocGlobal + Input + Eprint>(
+pub(crate) fn read_file<'a, R: Files + Terminals + AllocGlobal + Input + Eprint>(
     rt: &R,
     name: &'a str,
 ) -> Result<Vec<u8>, Failure<'a>> {

@@ -7,7 +7,7 @@ use Rattle.clap.specs.declared.error.kind.ErrorKind.TheVariants.{OutOfMemory}
 use Rattle.clap.proofs.OnLiterals.{clap_on_literals}
 use Rattle.gen_asked.specs.declared.jobs.Job.{Job}
 use Rattle.gen_words.specs.declared.words.WordsFault.{WordsFault}
-use Rattle.gen_words.specs.declared.words.WordsFault.TheVariants.{Memory, NotText, NoCommand, BadCapacity, BadWorkers, BadGeneral, BadSlot, BadRun, BadFaulty, BadLog, TwoStandard, Words}
+use Rattle.gen_words.specs.declared.words.WordsFault.TheVariants.{Memory, NotText, NoCommand, BadCapacity, BadWorkers, BadGeneral, BadSlot, BadRun, BadFaulty, BadLog, TwoStandard, Systems, Words}
 use Rattle.gen_words.specs.declared.choices.Choices.{Choices}
 use Rattle.gen_words.specs.declared.words.GivenCommand.{GivenCommand}
 use Rattle.gen_words.specs.declared.words.Request.{Request}
@@ -47,6 +47,7 @@ only_memory kinds error BadGeneral has from none = absurd from
 only_memory kinds error BadSlot has from none = absurd from
 only_memory kinds error BadLog has from none = absurd from
 only_memory kinds error TwoStandard has from none = absurd from
+only_memory kinds error (Systems inner) has from none = absurd from
 only_memory kinds error BadRun has from none = absurd from
 only_memory kinds error BadFaulty has from none = absurd from
 only_memory kinds error (Words e) has from none = absurd (from.1 (runs_out kinds error has none))
@@ -62,6 +63,7 @@ fault_had words kinds error BadGeneral same has from = absurd from
 fault_had words kinds error BadSlot same has from = absurd from
 fault_had words kinds error BadLog same has from = absurd from
 fault_had words kinds error TwoStandard same has from = absurd from
+fault_had words kinds error (Systems inner) same has from = absurd from
 fault_had words kinds error BadRun same has from = absurd from
 fault_had words kinds error BadFaulty same has from = absurd from
 fault_had words kinds error (Words e) same has from = elim has [

@@ -59,6 +59,26 @@ slot = option_named (codes "slot")
 abbrev pub print_run : Rule
 print_run = flag_named (codes "print-run")
 
+-- how many levels the tree of an identity has; the option is required
+abbrev pub levels : Rule
+levels = record (option_named (codes "levels")) { required = true }
+
+-- the number of a run of a system; the option is required
+abbrev pub run_number : Rule
+run_number = record (option_named (codes "number")) { required = true }
+
+-- what the users of a system agree on; the option is required
+abbrev pub context : Rule
+context = record (option_named (codes "context")) { required = true }
+
+-- whether each node of a system proposes in its turn
+abbrev pub turns : Rule
+turns = flag_named (codes "turns")
+
+-- whether the id of a system is printed
+abbrev pub print_id : Rule
+print_id = flag_named (codes "print-id")
+
 -- the file of the input, a word without an option; standard input, if it is absent or a minus
 abbrev pub file : Rule
 file = word_named (codes "file")
@@ -67,7 +87,7 @@ file = word_named (codes "file")
 abbrev pub name : Rule
 name = word_named (codes "file")
 
--- the file of a header, or of evidence, in the place of the file of the input
+-- the file of a header, of evidence or of a system, in the place of the file of the input
 abbrev pub first_file : Rule
 first_file = record (word_named (codes "file")) { required = true }
 
@@ -75,7 +95,7 @@ first_file = record (word_named (codes "file")) { required = true }
 abbrev pub log : Rule
 log = record (word_named (codes "log")) { required = true }
 
--- logs, a word for each, with its general and its file
+-- logs, or files of roots, a word for each, with its general and its file
 abbrev pub logs : Rule
 logs = record (word_named (codes "log")) { action = Some Append }
 
@@ -136,6 +156,24 @@ bundle = with_rule (with_rule (with_rule (new_app (codes "bundle")) faulty) firs
 
 abbrev pub answer : App
 answer = with_rule (with_rule (new_app (codes "answer")) first_file) log
+
+abbrev pub enroll : App
+enroll = with_rule (with_rule (with_rule (with_rule (new_app (codes "enroll")) levels) tall) workers) file
+
+abbrev pub identity : App
+identity = with_rule (new_app (codes "identity")) file
+
+abbrev pub system : App
+system =
+    with_rule (with_rule (with_rule (with_rule
+    (with_rule (with_rule (new_app (codes "system")) levels) context) turns) tall) print_id) file
+
+abbrev pub admission : App
+admission =
+    with_rule (with_rule (with_rule (with_rule (new_app (codes "admission")) run_number) print_id) first_file) logs
+
+abbrev pub admit : App
+admit = with_rule (with_rule (with_rule (new_app (codes "admit")) run_number) print_id) file
 
 abbrev pub explain : App
 explain = with_rule (new_app (codes "explain")) name
@@ -202,8 +240,24 @@ with_bundle = with_subcommand with_plan bundle.top
 abbrev pub with_answer : App
 with_answer = with_subcommand with_bundle answer.top
 
+-- the command line with the commands of identities and systems, too
+abbrev pub with_enroll : App
+with_enroll = with_subcommand with_answer enroll.top
+
+abbrev pub with_identity : App
+with_identity = with_subcommand with_enroll identity.top
+
+abbrev pub with_system : App
+with_system = with_subcommand with_identity system.top
+
+abbrev pub with_admission : App
+with_admission = with_subcommand with_system admission.top
+
+abbrev pub with_admit : App
+with_admit = with_subcommand with_admission admit.top
+
 abbrev pub with_explain : App
-with_explain = with_subcommand with_answer explain.top
+with_explain = with_subcommand with_admit explain.top
 
 abbrev pub tool : App
 tool = with_subcommand with_explain words.top

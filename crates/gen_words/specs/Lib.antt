@@ -3,4 +3,5 @@ pub mod Commands
 pub mod FaultLine
 pub mod Jobs
 pub mod Several
+pub mod Systems
 pub mod Tool

@@ -12,7 +12,7 @@ use Rattle.gen_words.specs.declared.choices.Choices.{Choices}
 use Rattle.gen_words.specs.declared.words.Request.{Request}
 use Rattle.gen_words.specs.declared.words.WordsFault.{WordsFault}
 use Rattle.gen_words.specs.declared.words.WordsFault.TheVariants.{Memory, NotText, NoCommand, Words}
-use Rattle.gen_words.specs.declared.words.WordsFault.TheVariants.{BadCapacity, BadWorkers, BadGeneral, BadSlot, BadRun, BadFaulty, BadLog, TwoStandard}
+use Rattle.gen_words.specs.declared.words.WordsFault.TheVariants.{BadCapacity, BadWorkers, BadGeneral, BadSlot, BadRun, BadFaulty, BadLog, TwoStandard, Systems}
 
 -- the job, if there is no fault
 abbrev pub without_fault : Kinds → Option Job → Option Job
@@ -46,6 +46,7 @@ fault_from error BadGeneral = ⊥
 fault_from error BadSlot = ⊥
 fault_from error BadLog = ⊥
 fault_from error TwoStandard = ⊥
+fault_from error (Systems inner) = ⊥
 fault_from error BadRun = ⊥
 fault_from error BadFaulty = ⊥
 fault_from error (Words e) = (e ≡ error) × (kind_of error ≢ OutOfMemory)
@@ -119,6 +120,7 @@ IsFaultOf words BadGeneral = (fault_of tool words ≡ []) × IsRefused (subcomma
 IsFaultOf words BadSlot = (fault_of tool words ≡ []) × IsRefused (subcommand_of tool words) BadSlot
 IsFaultOf words BadLog = ⊥
 IsFaultOf words TwoStandard = ⊥
+IsFaultOf words (Systems inner) = ⊥
 IsFaultOf words BadRun = (fault_of tool words ≡ []) × IsRefused (subcommand_of tool words) BadRun
 IsFaultOf words BadFaulty = (fault_of tool words ≡ []) × IsRefused (subcommand_of tool words) BadFaulty
 IsFaultOf words (Words e) = IsAmong (kind_of e) (fault_of tool words)

@@ -25,14 +25,14 @@ Examples:
   sm_tool explain N8
 
 Each command reads FILE to its end, or standard input if there is no FILE or it is '-', and writes nothing before its
-output is whole. Bundles, campaigns, evidence and receipts are bytes: redirect them.
+output is whole. Bundles, campaigns, evidence, receipts, systems and admissions are bytes: redirect them.
 
 Exit status:
   0  done: the output is whole, and doesn't say no; a picture never does
   1  done: a verdict of audit or judge is a no, evidence fails, or there is no evidence against the general; with
-     --strict also: a verdict is 'explained'; of receipt, no log of the general shows its decision; of receipts, no order
-     is shown, or several are; of show, the file doesn't read whole; of plan, the plan fails; of explain, there is no
-     such name
+     --strict also: a verdict is 'explained', or two roots are equal; of receipt, no log of the general shows its
+     decision; of receipts, no order is shown, or several are; of show, the file doesn't read whole; of plan, the plan
+     fails; of explain, there is no such name
   2  the words ask for nothing that there is, or bytes would go to a terminal
   3  the input has a fault, which standard error names; 'fault R1' says that it is of another run
   4  memory or a thread was refused
@@ -160,7 +160,7 @@ fn with_verdict<'a>(alloc: Global, command: CommandBuilder<'a>) -> CommandBuilde
         → app_of result.command ≡ lines.with_verdict (app_of command.entry.command) }
     ensures local { (fields_of result.command).has_globals ≡ false }
 {
-    let strict = "Ends with status 1 for the verdict 'explained' too";
+    let strict = "Ends with status 1 for the verdict 'explained' and for equal roots too";
     command
         .arg(flag_named(alloc, "strict", strict))
         .arg(flag_named(alloc, "json", ONE_OBJECT))
@@ -306,10 +306,85 @@ fn with_preparing<'a>(alloc: Global, tool: CommandBuilder<'a>) -> CommandBuilder
         .subcommand(answer)
 }
 
+/// Returns the option `--levels`, which is required: how many levels the tree of an identity has.
+fn levels_option<'a>(alloc: Global) -> Arg<'a>
+    ensures rule { rule_of result ≡ lines.levels }
+    ensures local { result.global ≡ false }
+{
+    let help = "The number of sets of keys is 2 to the power of H, 0 to 20";
+    option_named(alloc, "levels", "H", help).required(true)
+}
+
+/// Returns the option `--number`, which is required: the number of a run of a system.
+fn number_option<'a>(alloc: Global) -> Arg<'a>
+    ensures rule { rule_of result ≡ lines.run_number }
+    ensures local { result.global ≡ false }
+{
+    let help = "The number of a run of the system, from 0";
+    option_named(alloc, "number", "R", help).required(true)
+}
+
+/// Returns the flag `--print-id`: whether the id of the system is printed.
+fn print_id_flag<'a>(alloc: Global) -> Arg<'a>
+    ensures rule { rule_of result ≡ lines.print_id }
+    ensures local { result.global ≡ false }
+{
+    flag_named(
+        alloc,
+        "print-id",
+        "Prints the id of the system on standard error",
+    )
+}
+
+/// Returns the command line with the commands of identities and systems: `enroll`, `identity`, `system`, `admission` and
+/// `admit`.
+fn with_systems<'a>(alloc: Global, tool: CommandBuilder<'a>) -> CommandBuilder<'a>
+    ensures kept { result.refused ≡ false → tool.entry.refused ≡ false }
+    ensures app { result.refused ≡ false → app_of tool.entry.command ≡ lines.with_answer
+        → app_of result.command ≡ lines.with_admit }
+{
+    let about = "Reads a secret of 32 bytes and writes the roots of its sets of keys";
+    let tall = "Makes trees of 64 leaves, for runs of version 2";
+    let enroll = CommandBuilder::new(alloc, "enroll", about)
+        .arg(levels_option(alloc))
+        .arg(flag_named(alloc, "tall", tall))
+        .arg(workers_option(alloc))
+        .arg(file_argument(alloc));
+    let about = "Reads the roots of sets of keys and prints the identity over them";
+    let identity = CommandBuilder::new(alloc, "identity", about).arg(file_argument(alloc));
+    let about = "Reads the text of a header, whose roots are identities, and writes the system";
+    let context = "What the users of the system agree on: 64 hexadecimal digits";
+    let turns = "Lets each node propose in its turn, and not node 0 in each run";
+    let system = CommandBuilder::new(alloc, "system", about)
+        .arg(levels_option(alloc))
+        .arg(option_named(alloc, "context", "HEX", context).required(true))
+        .arg(flag_named(alloc, "turns", turns))
+        .arg(flag_named(alloc, "tall", tall))
+        .arg(print_id_flag(alloc))
+        .arg(file_argument(alloc));
+    let about = "Reads a system and each node's roots, each from its file, and writes an admission";
+    let roots = "The number of a node, and the file of its roots; once for each node";
+    let admission = CommandBuilder::new(alloc, "admission", about)
+        .arg(number_option(alloc))
+        .arg(print_id_flag(alloc))
+        .arg(word_named(alloc, "file", "SYSTEM", "The file of the system").required(true))
+        .arg(word_named(alloc, "log", "G=ROOTS", roots).action(ArgAction::Append));
+    let about = "Reads an admission and writes the header of a run that it admits";
+    let admit = CommandBuilder::new(alloc, "admit", about)
+        .arg(number_option(alloc))
+        .arg(print_id_flag(alloc))
+        .arg(file_argument(alloc));
+    tool.subcommand(enroll)
+        .subcommand(identity)
+        .subcommand(system)
+        .subcommand(admission)
+        .subcommand(admit)
+}
+
 /// Returns the command line with the commands that tell what a text means: `explain` and `words`.
 fn with_telling<'a>(alloc: Global, tool: CommandBuilder<'a>) -> CommandBuilder<'a>
     ensures kept { result.refused ≡ false → tool.entry.refused ≡ false }
-    ensures app { result.refused ≡ false → app_of tool.entry.command ≡ lines.with_answer
+    ensures app { result.refused ≡ false → app_of tool.entry.command ≡ lines.with_admit
         → app_of result.command ≡ lines.tool }
 {
     let about = "Prints what a name means that stands in an answer, or all names; reads no input";
@@ -325,7 +400,7 @@ fn with_telling<'a>(alloc: Global, tool: CommandBuilder<'a>) -> CommandBuilder<'
 
 /// Returns the command line of the program, with all its commands: those that read a scenario or a campaign, those that
 /// judge a bundle, those that show what evidence, a log, receipts or a file says, those that prepare a run or a dispute,
-/// and those that tell what a text means. One of them is required. It fails only if memory is refused.
+/// those of identities and systems, and those that tell what a text means. One of them is required. It fails only if memory is refused.
 pub fn tool_command<'a>(alloc: Global) -> Result<Command<'a>, AllocError>
     ensures { IfOk result (λ c. app_of c ≡ lines.tool) }
 {
@@ -338,6 +413,6 @@ pub fn tool_command<'a>(alloc: Global) -> Result<Command<'a>, AllocError>
     let tool = with_scenarios(alloc, CommandBuilder::of(alloc, bare));
     let tool = with_bundles(alloc, tool);
     let tool = with_showing(alloc, tool);
-    let tool = with_preparing(alloc, tool);
+    let tool = with_systems(alloc, with_preparing(alloc, tool));
     with_telling(alloc, tool).finish()
 }

@@ -37,9 +37,11 @@ pub enum Several<'a> {
 
 /// The general and the file of each log, in the order of the words that name them.
 #[derive(Drop)]
-struct NamedLogs<'a> {
-    generals: Vec<GeneralNo>,
-    files: Vec<&'a str>,
+pub(crate) struct NamedLogs<'a> {
+    /// The generals.
+    pub(crate) generals: Vec<GeneralNo>,
+    /// The words for the files.
+    pub(crate) files: Vec<&'a str>,
 }
 
 /// Returns the general and the file of a log that a word names, `G=LOG`: the number of a general, and behind the first
@@ -71,7 +73,7 @@ fn logs_named<'a>(alloc: Global, words: &[&'a str]) -> Result<Option<NamedLogs<'
 }
 
 /// Whether standard input stands at most once among a first name and others.
-fn read_once(first: &str, others: &[&str]) -> bool
+pub(crate) fn read_once(first: &str, others: &[&str]) -> bool
     ensures { result ≡ nat_le (standards (first.now ∷ map (λ o. o.now) others.now)) 1 }
 {
     let mut count = usize::from(first == STANDARD);
@@ -84,14 +86,17 @@ fn read_once(first: &str, others: &[&str]) -> bool
 }
 
 /// Returns the first text of an argument.
-fn text_of<'a>(inner: &ArgMatches<'a>, name: &str) -> Option<&'a str>
+pub(crate) fn text_of<'a>(inner: &ArgMatches<'a>, name: &str) -> Option<&'a str>
     ensures { option_map (λ t. t.now) result ≡ first_of name.now (rows_of (found_of inner.now)) }
 {
     inner.get_str(name)
 }
 
 /// Returns the general and the file of each log that the words behind the header name, if each of them names one.
-fn named_in<'a>(alloc: Global, inner: &ArgMatches<'a>) -> Result<Option<NamedLogs<'a>>, AllocError>
+pub(crate) fn named_in<'a>(
+    alloc: Global,
+    inner: &ArgMatches<'a>,
+) -> Result<Option<NamedLogs<'a>>, AllocError>
     ensures { IfOk result (λ named. MatchOption named (NamesNone (log_words (rows_of (found_of inner.now))))
         (λ n. AreNamed (log_words (rows_of (found_of inner.now))) n.generals.items (map (λ f. f.now) n.files.items))) }
 {

@@ -11,6 +11,7 @@ ghost use Rattle.gen_words.specs.declared.words.WordsFault.TheVariants.{Memory};
 
 use crate::choices::Choices;
 use crate::command_line::tool_command;
+use crate::systems::SystemsFault;
 use clap::ArgMatches;
 use clap::error::ErrorKind;
 use gen_asked::{Asked, AskedRuns, Faulty, Form, Job, Telling, read_faulty, read_run_ids};
@@ -64,6 +65,9 @@ pub enum WordsFault {
     /// Standard input stands for several files.
     #[error("error: '-' stands for one file at most")]
     TwoStandard,
+    /// An option of a command of identities and systems has a bad value.
+    #[error("{0}")]
+    Systems(SystemsFault),
     /// A mistake in the words, or a request for help or for the version.
     #[error("{0}")]
     Words(clap::Error),
@@ -134,7 +138,7 @@ pub struct Request<'a> {
 }
 
 /// Returns the number that a text spells, if there is a text and the number is in the range.
-fn number_between(text: Option<&str>, least: u8, most: u8) -> Option<u8>
+pub(crate) fn number_between(text: Option<&str>, least: u8, most: u8) -> Option<u8>
     ensures { result ≡ number_between least most (option_map (λ t. t.now) text.entry) }
 {
     match decimal_number(text?.as_bytes()) {
@@ -151,14 +155,14 @@ pub(crate) fn general_of(text: Option<&str>) -> Option<GeneralNo>
 }
 
 /// Returns the number of workers that a text spells, 1 to 16.
-fn workers_of(text: Option<&str>) -> Option<WorkerCount>
+pub(crate) fn workers_of(text: Option<&str>) -> Option<WorkerCount>
     ensures { result ≡ number_between 1 16 (option_map (λ t. t.now) text.entry) }
 {
     WorkerCount::new(usize::from(number_between(text, 1, MOST_WORKERS)?))
 }
 
 /// Returns whether a flag is set, by the text that the command line gives for it.
-fn is_set(text: Option<&str>) -> bool
+pub(crate) fn is_set(text: Option<&str>) -> bool
     ensures { result ≡ is_set (option_map (λ t. t.now) text.entry) }
 {
     match text {

@@ -5,7 +5,7 @@ use Rattle.std.proofs.lemmas.List.Elements.{All-contains, All-drop, All-get_or, 
 use Rattle.std.specs.List.{range_with_len}
 use Rattle.std.proofs.lemmas.List.{map-append, take_at}
 use Rattle.gen_types.specs.Members.{range_more}
-use Rattle.gen_types.proofs.Lists.{Contains_nil, Contains_cases, Contains_mapped, Contains_in_range}
+use Rattle.gen_types.proofs.Lists.{Contains_cases, Contains_mapped, Contains_in_range}
 use Rattle.gen_net.specs.Network.{Network}
 use Rattle.gen_net.specs.declared.message.Message.{Message}
 use Rattle.gen_net.specs.Run.{Run}

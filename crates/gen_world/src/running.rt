@@ -108,20 +108,6 @@ fn one_round(
     Ok(next)
 }
 
-/// Makes the lieutenants as they are before round 1, in ascending order.
-fn all_lieutenants(alloc: Global, net: &Net) -> Result<Vec<Lieutenant>, AllocError>
-    ensures numbers { IfOk result (λ all.
-        0 ∷ numbers_of all.items ≡ range_with_len 0 net.now.generals) }
-    ensures ready { IfOk result (λ all.
-        (run : Run) → IsRun net.now run → All (IsReady net.now run 0) all.items) }
-{
-    let mut all = Vec::new(alloc);
-    for number in 1..net.generals() {
-        all.push(Lieutenant::new(net, GeneralNo::at(number)))?;
-    }
-    Ok(all)
-}
-
 /// Returns the decisions of all generals after the last round: the commander's first, then those of these
 /// lieutenants in their order.
 fn decisions(
@@ -177,7 +163,10 @@ pub fn run_plain(alloc: Global, scenario: &PlainScenario) -> Result<PlainRun, Al
     let out = commander.sends(alloc, net)?;
     let mut messages = Vec::new(alloc);
     push_sends(&mut messages, GeneralNo::commander(), &out)?;
-    let mut lieutenants = all_lieutenants(alloc, net)?;
+    let mut lieutenants = Vec::new(alloc);
+    for number in 1..net.generals() {
+        lieutenants.push(Lieutenant::new(net, GeneralNo::at(number)))?;
+    }
     for gone in 0..net.rounds() {
         let next = one_round(alloc, net, &messages, &mut lieutenants, gone)?;
         messages.extend_from_slice(&next)?;

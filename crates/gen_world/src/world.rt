@@ -119,24 +119,6 @@ fn hear_all(
     Ok(())
 }
 
-/// Runs the round after the first `gone` rounds: all frames are made, and then each is heard.
-fn run_round(
-    alloc: Global,
-    scenario: &Scenario,
-    gone: u8,
-    parts: &mut Vec<Recorder>,
-    frames: &mut Vec<FrameRow>,
-) -> Result<(), AllocError>
-    requires gone { gone < rounds scenario.now.net }
-    requires all { AllRecord scenario.now gone parts.old.items }
-    ensures all { OnOk result (AllRecord scenario.now (gone + 1) parts.new.items) }
-    ensures frames { OnOk result (frames.new.items ≡ frames.old.items ++ rows_in scenario.now (gone + 1)) }
-{
-    let first = frames.len();
-    send_all(alloc, scenario, gone, parts, frames)?;
-    hear_all(alloc, scenario, gone, parts, &frames[first..])
-}
-
 /// Returns the decisions of all generals without scripts after the last round.
 fn decide_all(
     alloc: Global,
@@ -157,31 +139,9 @@ fn decide_all(
     Ok(decisions)
 }
 
-/// Ends the generals one after another, closes their rings, and returns their logs. If memory is refused, the
-/// generals that have not ended stay in the list.
-fn finish_all(alloc: Global, parts: &mut Vec<Recorder>) -> Result<Vec<SealedLog>, AllocError>
-    ensures { IfOk result (λ logs. logs.items ≡ flat_map logs_written parts.old.items) }
-{
-    let mut logs = Vec::new(alloc);
-    parts.reverse();
-    while let Some(part) = parts.pop() {
-        match part.finish(alloc) {
-            Ok(end) => {
-                let (mut own, ring) = end.into_parts();
-                close_ring(ring);
-                logs.append(&mut own)?;
-            }
-            Err(ring) => {
-                close_ring(ring);
-                return Err(AllocError);
-            }
-        }
-    }
-    Ok(logs)
-}
-
-/// Makes the generals in this list and runs all rounds. The caller has to close those that are left in the
-/// list, also if memory is refused.
+/// Makes the generals in this list, runs all rounds, and ends the generals one after another. In each round all
+/// frames are made, and then each is heard. The caller has to close the generals that are left in the list, also if
+/// memory is refused.
 fn run_rounds(
     alloc: Global,
     scenario: &Scenario,
@@ -200,10 +160,26 @@ fn run_rounds(
     }
     let mut frames = Vec::new(alloc);
     'rounds: for gone in 0..scenario.header().net().rounds() {
-        run_round(alloc, scenario, gone, parts, &mut frames)?;
+        let first = frames.len();
+        send_all(alloc, scenario, gone, parts, &mut frames)?;
+        hear_all(alloc, scenario, gone, parts, &frames[first..])?;
     }
     let decisions = decide_all(alloc, scenario, parts.as_slice())?;
-    let logs = finish_all(alloc, parts)?;
+    let mut logs = Vec::new(alloc);
+    parts.reverse();
+    while let Some(part) = parts.pop() {
+        match part.finish(alloc) {
+            Ok(end) => {
+                let (mut own, ring) = end.into_parts();
+                close_ring(ring);
+                logs.append(&mut own)?;
+            }
+            Err(ring) => {
+                close_ring(ring);
+                return Err(AllocError);
+            }
+        }
+    }
     Ok(WorldRun {
         frames,
         decisions,

@@ -3,8 +3,8 @@
 //! Of values, keys, signed texts and judging it tests: hashes and keys against values of the standards, the
 //! texts of faults, copies of walks, which leaves are taken, and how many verifications a store or reports
 //! make. It tests runs by a machine (`gen_async`), and by threads over edges (`gen_edge`, `gen_threads`). Of
-//! nodes (`gen_node`) it has what the library for C does not call. The laws are called in `library_laws` and
-//! `run_laws`.
+//! nodes (`gen_node`) it has what the library for C does not call. Of enrolment (`gen_enroll`) it compares
+//! numbers of workers. The laws are called in `library_laws` and `run_laws`.
 #![tactic(auto)]
 
 #[cfg(test)]
@@ -17,6 +17,8 @@ mod edge_lanes;
 mod edge_steps;
 #[cfg(test)]
 mod edge_threads;
+#[cfg(test)]
+mod enrolling;
 #[cfg(test)]
 mod gates;
 #[cfg(test)]

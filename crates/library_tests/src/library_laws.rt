@@ -4,6 +4,7 @@ use gen_campaign::{laws as campaigns, one_campaign_text, places_name_runs, texts
 use gen_chain::laws as chains;
 use gen_convict::laws as evidence;
 use gen_core::laws as algorithm;
+use gen_enroll as enrolment;
 use gen_local::laws as reports;
 use gen_log::laws as logs;
 use gen_match::laws as matching;
@@ -17,6 +18,13 @@ fn laws_of_values() {
     headers::one_front_spelling();
     one_script_line();
     algorithm::logs_are_kept();
+}
+
+#[test]
+fn laws_of_enrolment() {
+    enrolment::one_roots_spelling();
+    enrolment::pieces_of_files_join();
+    enrolment::pieces_of_secrets_join();
 }
 
 #[test]

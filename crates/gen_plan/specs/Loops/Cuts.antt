@@ -5,12 +5,6 @@ use Rattle.gen_types.specs.Bits.{bits_of}
 use Rattle.gen_plan.specs.Plans.{AreJoinedBy, IsSetOf, IsLeastApart}
 use Rattle.gen_plan.specs.declared.plans.Cut.{Cut}
 
--- the cut is of this set, which has this many members
-pub record IsCutOf (net : Network) (count diameter : ℕ) (faulty : List ℕ) (cut : Cut) : Type 0 where
-  pub set : cut.faulty ≡ faulty
-  pub size : length faulty ≡ count
-  pub pair : IsLeastApart net faulty diameter cut.a cut.b
-
 -- each set of this many generals leaves all others joined
 abbrev pub AllOfSizeStand : Network → ℕ → ℕ → Type 0
 AllOfSizeStand net count diameter =

@@ -1,7 +1,10 @@
 use Rattle.std.proofs.Common.{◌≡◌, []}
 use Rattle.std.specs.List.{flat_map, range_with_len}
-use Rattle.gen_plan.specs.EqualRoots.{pairs_of}
+use Rattle.gen_plan.specs.EqualRoots.{pair_of, pairs_of}
 use Rattle.gen_plan.proofs.roots.first_equal_roots.Given as goal
 
-abbrev pub invariant-loop-number : goal.invariant-loop-number
-invariant-loop-number l = flat_map (pairs_of l.header) (range_with_len 0 l.number) ≡ []
+abbrev pub invariant-loop-lesser : goal.invariant-loop-lesser
+invariant-loop-lesser l = flat_map (pairs_of l.header) (range_with_len 0 l.lesser) ≡ []
+
+abbrev pub invariant-loop-greater : goal.invariant-loop-greater
+invariant-loop-greater l = flat_map (pair_of l.header l.a) (range_with_len 0 l.greater) ≡ []

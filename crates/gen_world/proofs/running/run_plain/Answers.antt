@@ -1,6 +1,6 @@
 use Rattle.std.proofs.Common.{◌≡◌, ◌≢◌, ◌+◌, ◌<◌, ◌≤◌, ◌∷◌, ◌++◌, List, All, take, drop, length, subst, sym, ap, ◌∙◌, arith}
 use Rattle.std.specs.List.{range_with_len}
-use Rattle.std.proofs.lemmas.List.Elements.{All-weaker}
+use Rattle.std.proofs.lemmas.List.Elements.{All-push, All-weaker}
 use Rattle.gen_net.specs.Network.{rounds}
 use Rattle.gen_net.specs.Run.{Run}
 use Rattle.gen_core.specs.Seeing.{HasSeen}
@@ -12,10 +12,25 @@ use Rattle.gen_world.specs.Loops.Rounds.{IsAmong, IsReady, AreRelays, numbers_of
 use Rattle.gen_scenario.proofs.Growing.{AreNext, first_round, world_more, world_of}
 use Rattle.gen_scenario.proofs.Obeying.{all_obey}
 use Rattle.gen_world.proofs.Arriving.{first_sends}
-use Rattle.gen_world.proofs.Rounding.{written_back, next_of_relays, ready_longer}
+use Rattle.gen_world.proofs.Rounding.{numbers_pushed, written_back, next_of_relays, ready_longer}
 use Rattle.gen_world.proofs.running.run_plain.Goals as goal
 use Rattle.gen_scenario.specs.Deciding.{AreSignedDecisions}
 use Rattle.gen_scenario.proofs.DecisionsMade.{signed_decisions}
+
+pub loop-number-preserved : goal.loop-number-preserved
+loop-number-preserved c =
+    let net = c.net-net.result.now in
+    let all = c.loop-number.lieutenants.items in
+    let number : c.new.result.me ≡ c.loop-number.number = c.new.ensures.me ∙ c.at.ensures in
+    record {
+      numbers = rw c.in_ok-push.ensures.items (numbers_pushed all c.new.result c.loop-number.number c.loop-number.invariant.numbers number);
+      ready = λ run ok. rw c.in_ok-push.ensures.items (All-push (IsReady net run 0) all c.new.result (c.loop-number.invariant.ready run ok) (record {
+        lieutenant = let ne : c.new.result.me ≢ 0 = omega arith in ne;
+        general = omega (arith, c.generals-number-end.ensures.value);
+        gone = c.new.ensures.gone;
+        seen = c.new.ensures.seen run ok;
+      }));
+    }
 
 pub loop-gone-init : goal.loop-gone-init
 loop-gone-init c =
@@ -26,7 +41,8 @@ loop-gone-init c =
     let sent = subst (λ (xs : List Message). Appends (IsAmong 0 c.in_ok-out.out.items) xs c.push_sends.new.messages.items) c.new-messages.ensures.items out in
     let first = first_sends net c.new-commander.result c.in_ok-out.out.items c.push_sends.new.messages.items c.in_ok-out.ensures sent in
     let world = first_round net c.new-commander.result c.push_sends.new.messages.items c.rounds-gone-end.ensures.network known first in
-    record { world = world; ready = c.in_ok-lieutenants.ensures.ready c.push_sends.new.messages.items world.run_of_net; numbers = c.in_ok-lieutenants.ensures.numbers }
+    let all : c.loop-number.number ≡ net.generals = omega (arith, c.loop-number-test.false, c.loop-number.auto.number-end, c.generals-number-end.ensures.value, c.rounds-gone-end.ensures.network.ranges.some_generals) in
+    record { world = world; ready = c.loop-number.invariant.ready c.push_sends.new.messages.items world.run_of_net; numbers = c.loop-number.invariant.numbers ∙ ap (range_with_len 0) all }
 
 pub loop-gone-preserved : goal.loop-gone-preserved
 loop-gone-preserved c =
@@ -68,7 +84,7 @@ returns c =
     let low : order < net.orders = rw (c.new-commander.ensures, c.net-net.ensures) c.order.ensures.known in
     let same : AreSignedDecisions (record { net = net; order = order }) c.in_ok-decisions.decisions.items =
     signed_decisions (record { net = net; order = order }) c.in_ok-decisions.decisions.items c.rounds-gone-end.ensures.network low outcome in
-    rw (← c.net-net.ensures, ← c.order.ensures.value, ← c.new-commander.ensures, c.new.ensures) (record {
+    rw (← c.net-net.ensures, ← c.order.ensures.value, ← c.new-commander.ensures, c.new-2.ensures) (record {
       outcome = outcome;
       obeyed = λ near. all_obey net order c.in_ok-decisions.decisions.items outcome near;
       same = same;

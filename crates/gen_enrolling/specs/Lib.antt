@@ -1,0 +1,4 @@
+pub mod Admitting
+pub mod Enrolling
+pub mod Gathering
+pub mod Systems

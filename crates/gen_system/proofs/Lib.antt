@@ -1,0 +1,10 @@
+mod AdmissionLaws
+mod Apart
+mod Growing
+mod Moved
+mod RunHeaders
+mod RunNetLaws
+mod SystemLaws
+mod Turning
+mod TwoHeaders
+mod Whole

@@ -1,0 +1,9 @@
+pub mod AdmissionReading
+pub mod Admissions
+pub mod Admitting
+pub mod Colliding
+pub mod FaultNumber
+pub mod RunNets
+pub mod Runs
+pub mod SystemReading
+pub mod Systems
