@@ -18,12 +18,12 @@ pub ended : {E : Type 0} (r : Result (Unit {0}) E) (new whole old : List ℕ) �
 ended (Ok done) new whole old is = is
 ended (Err e) new whole old is = tt
 
--- six pieces
-pub six : {E : Type 0} (r : Result (Unit {0}) E) (old a b c d e f one two three four five new : List ℕ) → one ≡ old ++ a → two ≡ one ++ b
-    → three ≡ two ++ c → four ≡ three ++ d → five ≡ four ++ e → OnOk r (new ≡ five ++ f)
+-- pieces of which the second is appended with the third
+pub five : {E : Type 0} (r : Result (Unit {0}) E) (old a b c d e f one two three four new : List ℕ) → one ≡ old ++ a → two ≡ one ++ (b ++ c)
+    → three ≡ two ++ d → four ≡ three ++ e → OnOk r (new ≡ four ++ f)
     → OnOk r (new ≡ old ++ (a ++ (b ++ (c ++ (d ++ (e ++ f))))))
-six r old a b c d e f one two three four five new first second third fourth fifth last =
+five r old a b c d e f one two three four new first second third fourth last =
     behind r old a one (b ++ (c ++ (d ++ (e ++ f)))) new first
-    (behind r one b two (c ++ (d ++ (e ++ f))) new second
-    (behind r two c three (d ++ (e ++ f)) new third
-    (behind r three d four (e ++ f) new fourth (behind r four e five f new fifth last))))
+    (rw (← append_assoc b c (d ++ (e ++ f)))
+    (behind r one (b ++ c) two (d ++ (e ++ f)) new second
+    (behind r two d three (e ++ f) new third (behind r three e four f new fourth last))))

@@ -62,24 +62,22 @@ fn push_arrow_opening(
     }
 }
 
-/// Appends the generals of a path in words.
-fn push_path(out: &mut String, generals: &[GeneralNo]) -> Result<(), AllocError>
-    ensures { OnOk result
-        (string_bytes out.new ≡ string_bytes out.old ++ path_words generals.now) }
+/// Appends the end of a message's title: the generals of its path, and which logs have it.
+#[tactic(auto, unfolding(crate::specs::Arrows::told_words))]
+fn push_title_end(
+    out: &mut String,
+    generals: &[GeneralNo],
+    told: ToldBy,
+    from: u8,
+    to: u8,
+) -> Result<(), AllocError>
+    ensures { OnOk result (string_bytes out.new
+        ≡ string_bytes out.old ++ (path_words generals.now ++ told_words told from to)) }
 {
     for general in generals {
         let number = general.get();
         write!(out, " {number}")?;
     }
-    Ok(())
-}
-
-/// Appends in words which logs have a message.
-#[tactic(auto, unfolding(crate::specs::Arrows::told_words))]
-fn push_told(out: &mut String, told: ToldBy, from: u8, to: u8) -> Result<(), AllocError>
-    ensures { OnOk result
-        (string_bytes out.new ≡ string_bytes out.old ++ told_words told from to) }
-{
     match told {
         ToldBy::Both => out.push_str(": both logs have it</title>"),
         ToldBy::Sender => write!(out, ": only the log of {from} has it</title>"),
@@ -99,8 +97,7 @@ fn push_arrow(out: &mut String, grid: Grid, arrow: &Arrow) -> Result<(), AllocEr
     let order = arrow.message.order.get();
     let round = arrow.message.path.len() as u16;
     push_arrow_opening(out, arrow.told, from, to, round, order)?;
-    push_path(out, arrow.message.path.generals())?;
-    push_told(out, arrow.told, from, to)?;
+    push_title_end(out, arrow.message.path.generals(), arrow.told, from, to)?;
     push_message_stroke(out, grid, from, to, round, order)?;
     push_words(out, grid.middle(round, order), middle_of(from, to))?;
     write!(out, "{order}</text></g>\n")

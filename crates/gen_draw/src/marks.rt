@@ -7,7 +7,6 @@ ghost use Rattle.gen_draw.specs.Marks.{
   decided_at,
   end_line,
   found_at,
-  found_front,
   found_message,
   found_opening,
   found_words,
@@ -26,20 +25,12 @@ use gen_report::push_finding_name;
 use gen_types::{GeneralNo, OrderNo};
 use std::alloc::AllocError;
 
-/// Appends the beginning of a marked finding.
-#[tactic(auto, unfolding(crate::specs::Marks::found_front))]
-fn push_found_front(out: &mut String) -> Result<(), AllocError>
-    ensures { OnOk result (string_bytes out.new ≡ string_bytes out.old ++ found_front) }
-{
-    out.push_str("<g class=\"found\"><title>")
-}
-
 /// Appends a finding in words, as a title.
 #[tactic(auto, unfolding(crate::specs::Marks::found_opening))]
 fn push_found_opening(out: &mut String, finding: &Finding) -> Result<(), AllocError>
     ensures { OnOk result (string_bytes out.new ≡ string_bytes out.old ++ found_opening finding.now) }
 {
-    push_found_front(out)?;
+    out.push_str("<g class=\"found\"><title>")?;
     push_finding_name(out, finding)?;
     out.push_str("</title>")
 }

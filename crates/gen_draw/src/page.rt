@@ -1,15 +1,14 @@
-//! What every picture of one size has: heads of arrows, columns, lines and the legend.
+//! What every picture of one size has: heads of arrows, columns and lines.
 ghost use Rattle.std.specs.Prelude.{◌≡◌, ◌++◌, OnOk, string_bytes};
 ghost use Rattle.gen_draw.specs.Page.{
   general_line,
   heads_of,
-  legend_lines,
   life_of,
   round_lines,
 };
 
 use crate::grid::Grid;
-use crate::rows::{legend_row, row_of};
+use crate::rows::row_of;
 use std::alloc::AllocError;
 
 /// Appends the heads of arrows, one for each order in its colour.
@@ -77,19 +76,4 @@ pub fn push_general(out: &mut String, grid: Grid, held: bool, general: u8) -> Re
         push_life(out, grid, general)?;
         out.push_str("</g>\n")
     }
-}
-
-/// Appends the legend, which has for each order its title, a line in its colour, and its number.
-pub fn push_legends(out: &mut String, grid: Grid) -> Result<(), AllocError>
-    ensures { OnOk result (string_bytes out.new ≡ string_bytes out.old ++ legend_lines grid) }
-{
-    for order in 0..grid.orders {
-        let y = legend_row(grid.generals, order);
-        let below = y + 4;
-        write!(
-            out,
-            "<g class=\"o{order}\"><title>order {order}</title><path d=\"M16 {y}L56 {y}\"/><text x=\"64\" y=\"{below}\">order {order}</text></g>\n"
-        )?;
-    }
-    Ok(())
 }

@@ -15,7 +15,7 @@ ghost use Rattle.gen_draw.specs.Shown.{all_decided};
 use crate::arrows::push_arrows;
 use crate::grid::Grid;
 use crate::marks::{push_end, push_message_marks, push_note};
-use crate::page::{push_general, push_heads, push_legends, push_rounds};
+use crate::page::{push_general, push_heads, push_rounds};
 use crate::rows::legend_row;
 use crate::shapes::push_opening;
 use crate::shown::told_by;
@@ -85,12 +85,20 @@ fn push_frame(out: &mut String, net: &Net, faulty: &GeneralSet) -> Result<(), Al
     Ok(())
 }
 
-/// Appends the legend of orders, the words that say what the lines mean, and the end of the text.
+/// Appends the legend, which has for each order its title, a line in its colour, and its number; the words that say what
+/// the lines mean; and the end of the text.
 #[tactic(auto, unfolding(crate::specs::Picture::page_back, crate::specs::Picture::closing))]
 fn push_back(out: &mut String, grid: Grid) -> Result<(), AllocError>
     ensures { OnOk result (string_bytes out.new ≡ string_bytes out.old ++ page_back grid) }
 {
-    push_legends(out, grid)?;
+    for order in 0..grid.orders {
+        let y = legend_row(grid.generals, order);
+        let below = y + 4;
+        write!(
+            out,
+            "<g class=\"o{order}\"><title>order {order}</title><path d=\"M16 {y}L56 {y}\"/><text x=\"64\" y=\"{below}\">order {order}</text></g>\n"
+        )?;
+    }
     let y = legend_row(grid.generals, 0) + 4;
     write!(
         out,

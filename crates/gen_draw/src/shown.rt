@@ -68,25 +68,6 @@ fn add_entry_facts(
     Ok(())
 }
 
-/// Appends what the entries of a general's log say.
-fn add_entries_facts(
-    told: &mut ShownFacts,
-    general: GeneralNo,
-    entries: &[Entry],
-) -> Result<(), AllocError>
-    ensures sent { OnOk result
-        (told.new.sent.items ≡ told.old.sent.items ++ flat_map (sent_by general) entries.now) }
-    ensures received { OnOk result
-        (told.new.received.items ≡ told.old.received.items ++ flat_map (received_by general) entries.now) }
-    ensures decided { OnOk result
-        (told.new.decided.items ≡ told.old.decided.items ++ flat_map (decided_by general) entries.now) }
-{
-    for entry in entries {
-        add_entry_facts(told, general, entry)?;
-    }
-    Ok(())
-}
-
 /// Appends what is shown as a general's log says; nothing if it doesn't read as a log.
 #[tactic(auto, unfolding(crate::specs::Shown::sent_in, crate::specs::Shown::received_in, crate::specs::Shown::decided_in))]
 fn add_exhibit_facts(
@@ -103,7 +84,14 @@ fn add_exhibit_facts(
         ++ decided_in header.now exhibit.now) }
 {
     match read_log(alloc, header, exhibit.log()) {
-        Ok(log) => add_entries_facts(told, exhibit.general(), log.entries()),
+        Ok(log) => {
+            let general = exhibit.general();
+            let entries = log.entries();
+            for entry in entries {
+                add_entry_facts(told, general, entry)?;
+            }
+            Ok(())
+        }
         Err(ReadError::Memory) => Err(AllocError),
         Err(ReadError::Fault(_)) => Ok(()),
     }

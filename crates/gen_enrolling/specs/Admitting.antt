@@ -21,7 +21,7 @@ admission_read bytes = map_fault faults.Admission (whole_admission bytes)
 abbrev pub is_of_set : Version → ℕ → ℕ → Bool
 is_of_set version set run = set_of_run version run == set
 
--- The bytes are an admission that admits the header for the run in the system with the id that is made beside it.
+-- The bytes are an admission that admits the header for the run in the system whose id is made beside it.
 pub record IsAdmittedHeader (run : ℕ) (bytes : List ℕ) (made : Made) : Type 0 where
   pub admission : SetAdmission
   pub read : whole_admission bytes ≡ Ok admission

@@ -26,7 +26,8 @@ abbrev pub made_system : RunHeader → Proposer → ℕ → List ℕ → Result 
 made_system header proposer levels context = map_fault System (system_with header proposer levels context)
 
 -- the bytes and the id of the system that a text and these choices give, or the first fault
-unfoldable pub system_given : TreeHeight → Proposer → ℕ → List ℕ → List ℕ → Result (List ℕ × List ℕ) EnrollFault
+unfoldable pub system_given : TreeHeight → Proposer → ℕ → List ℕ → List ℕ
+    → Result (List ℕ × List ℕ) EnrollFault
 system_given height proposer levels context text = do
   header ← header_read height text
   system ← made_system header proposer levels context

@@ -170,7 +170,8 @@ system =
 
 abbrev pub admission : App
 admission =
-    with_rule (with_rule (with_rule (with_rule (new_app (codes "admission")) run_number) print_id) first_file) logs
+    with_rule (with_rule
+    (with_rule (with_rule (new_app (codes "admission")) run_number) print_id) first_file) logs
 
 abbrev pub admit : App
 admit = with_rule (with_rule (with_rule (new_app (codes "admit")) run_number) print_id) file

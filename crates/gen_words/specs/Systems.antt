@@ -46,14 +46,16 @@ abbrev pub workers_in : List Row → Option ℕ
 workers_in rows = number_between 1 16 (first_of (codes "workers") rows)
 
 -- the arguments of `enroll` say this
-pub record SaysEnroll (rows : List Row) (levels : ℕ) (height : TreeHeight) (workers : ℕ) (secret : Option Text) : Type 0 where
+pub record SaysEnroll (rows : List Row) (levels : ℕ) (height : TreeHeight) (workers : ℕ)
+    (secret : Option Text) : Type 0 where
   pub count : levels_in rows ≡ Some levels
   pub trees : height ≡ height_asked (first_of (codes "tall") rows)
   pub helpers : workers_in rows ≡ Some workers
   pub file : secret ≡ first_of (codes "file") rows
 
 -- the arguments of `system` say this
-pub record SaysSystem (rows : List Row) (levels : ℕ) (context : List ℕ) (turns : Bool) (height : TreeHeight) (prints_id : Bool) (text : Option Text) : Type 0 where
+pub record SaysSystem (rows : List Row) (levels : ℕ) (context : List ℕ) (turns : Bool)
+    (height : TreeHeight) (prints_id : Bool) (text : Option Text) : Type 0 where
   pub count : levels_in rows ≡ Some levels
   pub agreed : context_asked (first_of (codes "context") rows) ≡ Some context
   pub each : turns ≡ is_set (first_of (codes "turns") rows)
@@ -62,7 +64,8 @@ pub record SaysSystem (rows : List Row) (levels : ℕ) (context : List ℕ) (tur
   pub file : text ≡ first_of (codes "file") rows
 
 -- the arguments of `admission` say this
-pub record SaysAdmission (rows : List Row) (run : ℕ) (prints_id : Bool) (system : Text) (nodes : List ℕ) (roots : List Text) : Type 0 where
+pub record SaysAdmission (rows : List Row) (run : ℕ) (prints_id : Bool) (system : Text)
+    (nodes : List ℕ) (roots : List Text) : Type 0 where
   pub number : IsNumberOf (first_of (codes "number") rows) (Some run)
   pub prints : prints_id ≡ is_set (first_of (codes "print-id") rows)
   pub first : first_of (codes "file") rows ≡ Some system
@@ -82,7 +85,8 @@ IsForSystems p (Enroll levels height workers secret) =
 IsForSystems p (Identity roots) =
     (p.0 ≡ codes "identity") × (option_map (λ t. t.now) roots ≡ first_of (codes "file") p.1)
 IsForSystems p (System levels context turns height prints_id text) =
-    (p.0 ≡ codes "system") × SaysSystem p.1 levels context turns height prints_id (option_map (λ t. t.now) text)
+    (p.0 ≡ codes "system")
+    × SaysSystem p.1 levels context turns height prints_id (option_map (λ t. t.now) text)
 IsForSystems p (Admission run prints_id system nodes roots) =
     (p.0 ≡ codes "admission")
     × SaysAdmission p.1 run prints_id system.now nodes.items (map (λ r. r.now) roots.items)
@@ -133,7 +137,8 @@ IsAdmitFault rows _ = ⊥
 abbrev pub IsSystemsFault : Text × List Row → WordsFault → Type 0
 IsSystemsFault p fault =
     ((p.0 ≡ codes "enroll") × IsEnrollFault p.1 fault) ⊎ (((p.0 ≡ codes "system") × IsSystemFault p.1 fault)
-    ⊎ (((p.0 ≡ codes "admission") × IsAdmissionFault p.1 fault) ⊎ ((p.0 ≡ codes "admit") × IsAdmitFault p.1 fault)))
+    ⊎ (((p.0 ≡ codes "admission") × IsAdmissionFault p.1 fault)
+    ⊎ ((p.0 ≡ codes "admit") × IsAdmitFault p.1 fault)))
 
 -- a command with these arguments says this, or it is another command
 abbrev pub IsSaid : Text × List Row → Option Systems → Type 0
@@ -146,8 +151,8 @@ IsSaidBy None None = Unit {0}
 IsSaidBy None (Some systems) = ⊥
 IsSaidBy (Some p) said = IsSaid p said
 
--- Words ask for this; or the command line has a fault at them, or the command that they name is another, or they
--- name none.
+-- Words ask for this; or the command line has a fault at them, or the command that they name is another, or
+-- they name none.
 abbrev pub AsksForSystems : List Text → Option Systems → Type 0
 AsksForSystems words None = fault_of tool words ≡ [] → IsSaidBy (subcommand_of tool words) None
 AsksForSystems words (Some systems) =
