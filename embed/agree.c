@@ -73,7 +73,7 @@ static void hand_over(struct run *run, uint32_t from, uint32_t to) {
     must("sm_node_awaits", sm_node_awaits(&run->node[from], to, &awaited), 0);
     if (!awaited) return;
     must("sm_node_send", sm_node_send(&run->node[from], to, frame, sizeof frame, &count), 0);
-    /* At SM_FAULT a transport of your own keeps a frame of a later round, and drops all other bytes: docs/NODES.md. */
+    /* At SM_MEMORY a transport of your own keeps the frame, at SM_FAULT only one that is early: docs/NODES.md. */
     uint32_t status = sm_node_hear(&run->node[to], from, frame, count, &fault);
     must("sm_node_hear", status, fault);
 }
