@@ -54,6 +54,8 @@ IN_BROWSER = 60
 # What Node needs for 64-bit memories, where it needs anything.
 FLAGS = [["--experimental-wasm-memory64"], []]
 TINY = "process.exit(WebAssembly.validate(Uint8Array.of(0, 97, 115, 109, 1, 0, 0, 0, 5, 3, 1, 4, 1)) ? 0 : 1)"
+# Where the picture of the page goes, if one is asked for: PAGE_PICTURE=docs/pictures/page.png.
+PICTURE = os.environ.get("PAGE_PICTURE")
 # The least contrast between text and what is behind it, by WCAG 2, level AA.
 CONTRAST = 4.5
 NARROW = 320
@@ -627,11 +629,19 @@ def try_answers_of(program, shown, given, tally, folder):
     try_report(shown, folder, tally, "split.bundle", wants)
 
 
+def take_picture(shown, given):
+    """Writes what the page says of a bundle whose proposer is convicted, as docs/pictures/page.png, where PICTURE names that file."""
+    if PICTURE:
+        given.take(lambda paths: shown.choose("#file", paths), {"split.bundle": read(EXAMPLES, "split.bundle")})
+        shown.shot(PICTURE)
+
+
 def try_page(program, page, bases, tally, folder, shown):
     """The page in one browser."""
     shown.open(page)
     shown.learn(read(HERE, "page_looks.js").decode())
     given = Given(shown, program, folder, tally)
+    take_picture(shown, given)
     try_answers_of(program, shown, given, tally, folder)
     try_replies(program, shown, given, tally, folder)
     try_network(shown, page, tally)
