@@ -24,35 +24,12 @@ const FAULT_STATUS: u8 = 3;
 /// The word for standard input in the place of a file.
 const STANDARD: &str = "-";
 
-/// Why a command has no output.
-enum Refusal<'a> {
-    /// A file could not be read, or memory was refused.
-    Failed(Failure<'a>),
-    /// An input breaks this rule.
-    Broken(EnrollFault),
-}
-
-impl<'a> From<Failure<'a>> for Refusal<'a> {
-    fn from(failure: Failure<'a>) -> Refusal<'a> {
-        Refusal::Failed(failure)
-    }
-}
-
-impl<'a> From<ReadError<EnrollFault>> for Refusal<'a> {
-    fn from(e: ReadError<EnrollFault>) -> Refusal<'a> {
-        match e {
-            ReadError::Memory => Refusal::Failed(Failure::of_fault(JobFault::Memory)),
-            ReadError::Fault(fault) => Refusal::Broken(fault),
-        }
-    }
-}
-
 /// Returns the bytes of the file that a word names, or of standard input without a word.
 fn read_input<'a, R: Files + Terminals + AllocGlobal + Input + Eprint>(
     rt: &R,
     word: Option<&'a str>,
-) -> Result<Vec<u8>, Refusal<'a>> {
-    Ok(read_file(rt, word.unwrap_or(STANDARD))?)
+) -> Result<Vec<u8>, Failure<'a>> {
+    read_file(rt, word.unwrap_or(STANDARD))
 }
 
 /// Returns the file of roots of each node, in the order of the words.
@@ -60,12 +37,12 @@ fn read_roots_of<'a, R: Files + Terminals + AllocGlobal + Input + Eprint>(
     rt: &R,
     nodes: &[GeneralNo],
     files: &[&'a str],
-) -> Result<Vec<NodeRoots>, Refusal<'a>> {
+) -> Result<Vec<NodeRoots>, Failure<'a>> {
     let mut all = Vec::new(rt.alloc());
     for (node, file) in nodes.iter().zip(files) {
         let bytes = read_file(rt, *file)?;
         if all.push(NodeRoots { node: *node, bytes }).is_err() {
-            return Err(Refusal::Failed(Failure::of_fault(JobFault::Memory)));
+            return Err(Failure::of_fault(JobFault::Memory));
         }
     }
     Ok(all)
@@ -78,20 +55,38 @@ struct Told {
     id: Option<[u8; 32]>,
 }
 
-impl Told {
-    /// Returns what is told of bytes of a system, whose id is printed or not.
-    fn of(made: Made, prints_id: bool) -> Told {
-        let Made { bytes, system } = made;
-        let id = if prints_id { Some(system) } else { None };
-        Told { bytes, id }
+/// Returns who proposes: each node in its turn, or node 0.
+fn proposer_of(turns: bool) -> Proposer {
+    if turns {
+        Proposer::Turns
+    } else {
+        Proposer::First
     }
 }
 
-/// Returns what a command writes.
-fn told_by<'a, R: Files + Terminals + AllocGlobal + Input + Eprint + Threads + Sync>(
+/// What a command writes, or the rule that an input breaks.
+type Answer = Result<Told, ReadError<EnrollFault>>;
+
+/// Returns the answer of a command that tells no system.
+fn told_alone(bytes: Result<Vec<u8>, ReadError<EnrollFault>>) -> Answer {
+    Ok(Told {
+        bytes: bytes?,
+        id: None,
+    })
+}
+
+/// Returns the answer of a command that writes bytes of a system, whose id is printed or not.
+fn told_of_system(made: Result<Made, ReadError<EnrollFault>>, prints_id: bool) -> Answer {
+    let Made { bytes, system } = made?;
+    let id = if prints_id { Some(system) } else { None };
+    Ok(Told { bytes, id })
+}
+
+/// Returns the answer of a command, or why a file was not read.
+fn answer_of<'a, R: Files + Terminals + AllocGlobal + Input + Eprint + Threads + Sync>(
     rt: &R,
     systems: &Systems<'a>,
-) -> Result<Told, Refusal<'a>> {
+) -> Result<Answer, Failure<'a>> {
     let alloc = rt.alloc();
     match systems {
         Systems::Enroll {
@@ -101,12 +96,12 @@ fn told_by<'a, R: Files + Terminals + AllocGlobal + Input + Eprint + Threads + S
             secret,
         } => {
             let secret = read_input(rt, *secret)?;
-            let bytes = enroll(rt, alloc, &secret, *height, *levels, *workers)?;
-            Ok(Told { bytes, id: None })
+            let roots = enroll(rt, alloc, &secret, *height, *levels, *workers);
+            Ok(told_alone(roots))
         }
         Systems::Identity { roots } => {
-            let bytes = identity_text(alloc, &read_input(rt, *roots)?)?;
-            Ok(Told { bytes, id: None })
+            let roots = read_input(rt, *roots)?;
+            Ok(told_alone(identity_text(alloc, &roots)))
         }
         Systems::System {
             levels,
@@ -117,13 +112,9 @@ fn told_by<'a, R: Files + Terminals + AllocGlobal + Input + Eprint + Threads + S
             text,
         } => {
             let text = read_input(rt, *text)?;
-            let proposer = if *turns {
-                Proposer::Turns
-            } else {
-                Proposer::First
-            };
-            let made = system_of_text(alloc, *height, proposer, *levels, *context, &text)?;
-            Ok(Told::of(made, *prints_id))
+            let proposer = proposer_of(*turns);
+            let made = system_of_text(alloc, *height, proposer, *levels, *context, &text);
+            Ok(told_of_system(made, *prints_id))
         }
         Systems::Admission {
             run,
@@ -134,17 +125,17 @@ fn told_by<'a, R: Files + Terminals + AllocGlobal + Input + Eprint + Threads + S
         } => {
             let system = read_file(rt, *system)?;
             let files = read_roots_of(rt, nodes, roots)?;
-            let made = admission_of_files(alloc, *run, &system, &files)?;
-            Ok(Told::of(made, *prints_id))
+            let made = admission_of_files(alloc, *run, &system, &files);
+            Ok(told_of_system(made, *prints_id))
         }
         Systems::Admit {
             run,
             prints_id,
             admission,
         } => {
-            let bytes = read_input(rt, *admission)?;
-            let made = header_admitted(alloc, *run, &bytes)?;
-            Ok(Told::of(made, *prints_id))
+            let admission = read_input(rt, *admission)?;
+            let made = header_admitted(alloc, *run, &admission);
+            Ok(told_of_system(made, *prints_id))
         }
     }
 }
@@ -166,8 +157,8 @@ pub(crate) fn finish_systems<
     if !matches!(systems, Systems::Identity { roots: _ }) && rt.writes_terminal() {
         return refuse_terminal(rt);
     }
-    match told_by(rt, systems) {
-        Ok(told) => {
+    match answer_of(rt, systems) {
+        Ok(Ok(told)) => {
             let mut output = io::writer(rt);
             let mut writer = WatchedWriter::new(&mut output);
             let text = told.bytes;
@@ -178,10 +169,11 @@ pub(crate) fn finish_systems<
             }
             end_written(rt, end, writer.failure)
         }
-        Err(Refusal::Failed(failure)) => fail_with(rt, &failure),
-        Err(Refusal::Broken(fault)) => {
+        Ok(Err(ReadError::Fault(fault))) => {
             let _ = eprintln!(rt; "{fault}");
             FAULT_STATUS
         }
+        Ok(Err(ReadError::Memory)) => fail_with(rt, &Failure::of_fault(JobFault::Memory)),
+        Err(failure) => fail_with(rt, &failure),
     }
 }

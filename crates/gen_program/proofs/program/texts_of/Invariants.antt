@@ -1,4 +1,4 @@
-use Rattle.std.proofs.Common.{◌≡◌, ◌+◌, ◌≤◌, length, map, string_bytes, take, vec_len, vec_capacity}
+use Rattle.std.proofs.Common.{◌≡◌, map, string_bytes, take, vec_len, vec_capacity}
 use Rattle.gen_program.proofs.program.texts_of.Given as goal
 
 abbrev pub invariant-loop-word : goal.invariant-loop-word
