@@ -124,7 +124,9 @@ fn refusal_of(fault: &WordsFault) -> Result<&'static str, Refused> {
         WordsFault::BadGeneral => Ok("refused general"),
         WordsFault::BadSlot => Ok("refused slot"),
         WordsFault::BadRun => Ok("refused run"),
-        WordsFault::BadLog | WordsFault::TwoStandard | WordsFault::Systems(_) => Ok("refused words"),
+        WordsFault::BadLog | WordsFault::TwoStandard | WordsFault::Systems(_) => Ok(
+            "refused words",
+        ),
         WordsFault::BadFaulty => Ok("refused faulty"),
         WordsFault::Words(error) if error.kind() == ErrorKind::DisplayHelp => Ok("help"),
         WordsFault::Words(error) if error.kind() == ErrorKind::DisplayVersion => Ok("version"),
