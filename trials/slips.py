@@ -40,6 +40,23 @@ def build(folder):
     return library
 
 
+def of_systems(program, folder):
+    """The commands of identities and systems, each on a small input."""
+    enroll, system = ["enroll", "--levels", "1"], ["system", "--levels", "1", "--context", "00" * 32]
+    secrets = [bytes([byte]) * 32 for byte in (7, 8)]
+    roots = [run(program, enroll, secret).wrote for secret in secrets]
+    tops = [b"root " + run(program, ["identity"], it).wrote for it in roots]
+    text = header_text().partition(b"\nroot ")[0] + b"\n" + b"".join(tops) + b"end\n"
+    paths = [os.path.join(folder, f"{node}.roots") for node in (0, 1)]
+    for path, data in zip(paths, roots):
+        with open(path, "wb") as kept:
+            kept.write(data)
+    admission = ["admission", "--number", "1", "-", *(f"{node}={path}" for node, path in enumerate(paths))]
+    made = run(program, system, text).wrote
+    told = [(enroll, secrets[0]), (["identity"], roots[0]), (system, text), ([*system, "--print-id"], text), (admission, made)]
+    return [*told, (["admit", "--number", "1", "--print-id"], run(program, admission, made).wrote)]
+
+
 def cases(program, folder):
     """Each command on a small input, of which it writes something: the words, and the input. Files that are named lie in a
     folder."""
@@ -67,7 +84,7 @@ def cases(program, folder):
     prepared += [(["bundle", "--faulty", "1", "-", "1=" + paths["log"]], header)]
     prepared += [(["bundle", "--faulty", "1", paths["header"], "1=-"], log), (["answer", paths["evidence"], "-"], log)]
     prepared += [(["answer", "-", paths["log"]], evidence), (["words"], run(program, ["audit"], bundle).wrote)]
-    return [*of_text, *of_bundles, *of_evidence, *prepared]
+    return [*of_text, *of_bundles, *of_evidence, *prepared, *of_systems(program, folder)]
 
 
 class Slipping:
