@@ -12,6 +12,7 @@ should run. bench/nodes.py times one node.
 """
 import os
 import resource
+import shutil
 import subprocess
 import sys
 import tempfile
@@ -163,22 +164,31 @@ def stack_of(words, given):
     return None
 
 
+def stored(data):
+    """How many bytes a bundle has once zstd has compressed it, if zstd is there."""
+    if not shutil.which("zstd"):
+        return None
+    return len(subprocess.run(["zstd", "-q", "-c", "--long=27"], input=data, stdout=subprocess.PIPE, check=True).stdout)
+
+
 def spelled(count):
     """A number of bytes in kilobytes."""
+    if count is None:
+        return "-"
     return f"{count / 1000:.1f}" if count < 100_000 else f"{count / 1000:,.0f}"
 
 
 def print_sizes(program):
     """The table of bytes, in kilobytes. Returns the text and the bundle of each case."""
-    print("| Network | m | d | q | Longest frame | All frames | All logs | Any frame at most | Any log at most |")
-    print("|---|---|---|---|---|---|---|---|---|")
+    print("| Network | m | d | q | Longest frame | All frames | All logs | Their bundle by zstd | Any frame at most | Any log at most |")
+    print("|---|---|---|---|---|---|---|---|---|---|")
     made = []
     for name, edges, traitors, diameter, orders in CASES:
         sizes, text = Sizes(edges, traitors, diameter, orders), scenario(edges, traitors, diameter, 1, orders=orders)
         data = written(program, ["run"], text)
         check(sizes, data)
         made.append((name, traitors, diameter, orders, text, data))
-        numbers = [sizes.longest(), sizes.traffic(), sizes.logs(), sizes.most_frame(), sizes.most_log()]
+        numbers = [sizes.longest(), sizes.traffic(), sizes.logs(), stored(data), sizes.most_frame(), sizes.most_log()]
         print(f"| {name} | {traitors} | {diameter} | {orders} | {' | '.join(map(spelled, numbers))} |")
     return made
 

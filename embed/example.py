@@ -19,6 +19,8 @@ class Options(ctypes.Structure):
 
     _fields_ = [("runs", ctypes.c_char_p), ("run_count", ctypes.c_size_t)]
     _fields_ += [(name, ctypes.c_uint32) for name in ("strict", "form", "receipts")]
+    _fields_ += [("admission", ctypes.c_char_p), ("admission_bytes", ctypes.c_size_t)]
+    _fields_ += [("system", ctypes.c_char_p), ("system_bytes", ctypes.c_size_t)]
 
 
 class Library:
@@ -38,7 +40,7 @@ class Library:
 
     def answer(self, job, given, *general):
         """The number that says what the answer is, and the text or line."""
-        answer, asked = ctypes.c_void_p(None), Options(b"")
+        answer, asked = ctypes.c_void_p(None), Options(b"", admission=b"", system=b"")
         try:
             status = self.function(job)(*general, given, len(given), asked, answer)
             return status, self.text(answer)

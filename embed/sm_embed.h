@@ -3,8 +3,8 @@
    Link libsm_embed.a and heap.c, which a release has as libsm_embed_heap.a too. docs/EMBED.md says more. A general is
    a node.
 
-   A job is one call, which puts its answer into an sm_answer: a text, and of sm_audit, sm_receipts and sm_decide also
-   facts, which are structs. sm_answer_text and sm_answer_facts write these into room, as often as they are asked to,
+   A job is one call, which puts its answer into an sm_answer: a text, and of some calls also facts, which are structs.
+   sm_answer_text and sm_answer_facts write these into room, as often as they are asked to,
    and change nothing of the answer. sm_answer_free frees it. An sm_answer is one pointer. The caller sets it to null
    before the first call, as by `sm_answer answer = {0};`, and does not read, write or copy it afterwards. A job frees
    what was held before, so one answer serves many calls.
@@ -15,16 +15,18 @@
      SM_OK       the answer is held, and is not a no
      SM_NO       the answer is held, and is a no
      SM_MISUSE   the number of the general is above 15, the options have more than four run ids or a form that is
-                 none, or a pointer is null though there are bytes, and nothing is held
+                 none or run ids beside an admission or a system that is no id or stands without an admission, or a
+                 pointer is null though there are bytes, and nothing is held
      SM_FAULT    the input has a fault. The line that sm_tool prints of it is held, without its line feed and without
                  facts
      SM_MEMORY   memory was refused, and nothing is held
      SM_NOBODY   the general is none of the run's, and nothing is held
-     SM_OTHER    the input is of another run than the one that is expected. The line `fault R1` is held, without facts
+     SM_OTHER    the input is of another run than the one that is expected, or the admission is of another system. The
+                 line `fault R1` or `fault A11` is held, without facts
 
-   A pointer to bytes, run ids or facts may be null if their number is 0, and a pointer to options may be null. This is
-   tested by C in this header, before the call of the archive: no proof is about it, and a caller that does not use
-   this header never passes null.
+   A pointer to bytes, run ids, files or facts may be null if their number is 0, and a pointer to options may be null.
+   This is tested by C in this header, before the call of the archive: no proof is about it, and a caller that does not
+   use this header never passes null.
 
    The proofs hold for calls that keep the following, which nothing checks:
 
@@ -68,7 +70,19 @@ typedef struct {
     uint32_t strict;     /* of sm_audit: not 0 makes a no of `explained` too, and of two generals with the same root */
     uint32_t form;       /* of sm_audit, sm_evidence, sm_receipts, sm_decide and sm_show: SM_TEXT or SM_JSON */
     uint32_t receipts;   /* of sm_accuse: not 0 if the input is receipts, and no bundle and no campaign */
+    const uint8_t *admission; /* an admission, which stands in the place of run ids: the input must be of runs of its
+                                 set. sm_decide compares none. Its own faults are reported first */
+    size_t admission_bytes;   /* how many bytes it has. If there are 0, none is given */
+    const uint8_t *system;    /* the id of the system that the admission must be of */
+    size_t system_bytes;      /* SM_SYSTEM_ID_BYTES, or 0 for any system */
 } sm_options;
+
+/* The file of roots of a node, which is not null. */
+typedef struct {
+    uint32_t node;
+    const uint8_t *roots;
+    size_t roots_bytes;
+} sm_roots;
 
 /* The kinds of facts, with the fields that each has besides `kind` and `run`. */
 enum sm_fact_kind {
@@ -87,8 +101,11 @@ enum sm_fact_kind {
     SM_FACT_EQUAL_ROOTS = 7, /* general, other: two generals with the same root */
     SM_FACT_SHOWN = 8,       /* set: the orders that more than m generals show, bit v for order v; generals: n;
                                 traitors: m; run_id */
-    SM_FACT_RECEIPT = 9      /* general; order: what it decides; set: the orders that it accepted, bit v for order v;
+    SM_FACT_RECEIPT = 9,     /* general; order: what it decides; set: the orders that it accepted, bit v for order v;
                                 entry: how many entries its log has; number: 1 if the receipt holds, 2 if it fails */
+    SM_FACT_SYSTEM = 10,     /* run_id: the id of the system, and no run id; number: the number of the run in the
+                                system, of sm_system 0 */
+    SM_FACT_NODE = 11        /* general; other: the node of the system that it is in the run */
 };
 
 /* What a verdict says: nothing is found, and at most m generals are held for faulty; nothing is found, and more are,
@@ -107,8 +124,9 @@ enum sm_general_status {
    field that the kind does not have is 0. Facts of sm_audit stand in this order: for each run its SM_FACT_RUN, the
    status of each general, the decisions of `explained` or the findings of `no`, and the convictions; behind all runs
    the convictions across two of them, and the equal roots, which do not hang on `strict`. Facts of sm_receipts are the
-   SM_FACT_SHOWN, each receipt in the order of the input, and the convictions. Facts of sm_decide are decisions. Other
-   answers have none. */
+   SM_FACT_SHOWN, each receipt in the order of the input, and the convictions. Facts of sm_decide are decisions. With an
+   admission there stand in front, of each call: for each run its SM_FACT_SYSTEM, and the SM_FACT_NODE of each general.
+   So they do of sm_admit, and the SM_FACT_SYSTEM alone of sm_system and sm_admission. Other answers have none. */
 typedef struct {
     uint32_t kind, run, general, other, number, order, round, log_fault, chain_fault, generals, traitors, set;
     uint64_t entry;
@@ -199,6 +217,54 @@ uint32_t sm_plan(const uint8_t *input, size_t input_bytes, sm_answer *answer) SM
    Returns SM_OK, SM_MISUSE, SM_FAULT or SM_MEMORY. */
 uint32_t sm_run_id(const uint8_t *input, size_t input_bytes, sm_answer *answer) SM_CALL(1, 3);
 
+/* Makes the file of roots of a secret, as sm_tool enroll: bytes, and no text. It has 5 + 32 * 2^levels bytes, which are
+   public. Runs of version 1 need a file of version 1, and runs of version 2 one of version 2. The keys of each of the
+   2^levels sets are made, in the calling thread alone, which nothing can stop. The secret is not wiped.
+
+     SM_MISUSE   the version is neither 1 nor 2, there are more than SM_LEVELS_MOST levels, or a pointer is null though
+                 there are bytes, and nothing is held
+     SM_FAULT    the secret has other than 32 bytes. The line `fault G1` is held
+
+   Returns SM_OK, SM_MISUSE, SM_FAULT or SM_MEMORY. */
+uint32_t sm_enroll(uint32_t version, uint32_t levels, const uint8_t *secret, size_t secret_bytes, sm_answer *answer)
+    SM_CALL(3, 5);
+
+/* Tells the identity over a file of roots, as sm_tool identity: its top in 64 hexadecimal digits, and a line feed.
+   Returns SM_OK, SM_MISUSE, SM_FAULT or SM_MEMORY. */
+uint32_t sm_identity(const uint8_t *input, size_t input_bytes, sm_answer *answer) SM_CALL(1, 3);
+
+/* Makes the system of the text of a header, as sm_tool system: bytes, and no text. The roots of the text are the tops
+   of the identities. The numbers are the version of its runs, the levels of each identity, and whether nodes propose in
+   turns: not if it is 0. The context is SM_CONTEXT_BYTES bytes that the users choose. The fact is SM_FACT_SYSTEM.
+
+     SM_MISUSE   the version is neither 1 nor 2, there are more than SM_LEVELS_MOST levels, or a pointer is null though
+                 there are bytes, and nothing is held
+
+   Returns SM_OK, SM_MISUSE, SM_FAULT or SM_MEMORY. */
+uint32_t sm_system(uint32_t version, uint32_t levels, uint32_t turns, const uint8_t context[32], const uint8_t *text,
+                   size_t text_bytes, sm_answer *answer) SM_CALL(4, 5, 7);
+
+/* Makes the admission of the set of the run with this number, as sm_tool admission: bytes, and no text. The inputs are
+   the bytes of the system, and the file of roots of each node, node 0 first. The fact is SM_FACT_SYSTEM.
+
+     SM_MISUSE   the number of a node is above 15, or a pointer is null though there are bytes, and nothing is held
+
+   Returns SM_OK, SM_MISUSE, SM_FAULT or SM_MEMORY. */
+uint32_t sm_admission(uint32_t run, const uint8_t *system, size_t system_bytes, const sm_roots *files,
+                      size_t file_count, sm_answer *answer) SM_CALL(2, 4, 6);
+
+/* Makes the header of the run with this number of an admission, as sm_tool admit: bytes, and no text. `system` is the
+   id of the system that is expected, of SM_SYSTEM_ID_BYTES bytes, or of 0 bytes for any system, whose id the caller
+   then compares. A fault of the admission is reported before another system is, which is `fault A11`. The facts are
+   SM_FACT_SYSTEM, and the SM_FACT_NODE of each general.
+
+     SM_MISUSE   the id of the system has other than 0 or 32 bytes, or a pointer is null though there are bytes, and
+                 nothing is held
+
+   Returns SM_OK, SM_MISUSE, SM_FAULT, SM_MEMORY or SM_OTHER. */
+uint32_t sm_admit(uint32_t run, const uint8_t *admission, size_t admission_bytes, const uint8_t *system,
+                  size_t system_bytes, sm_answer *answer) SM_CALL(2, 4, 6);
+
 /* Writes the text, the line or the bytes that an answer holds, with no zero byte behind them. The room behind them
    keeps its old content. If the room has 0 bytes, *count tells the length.
 
@@ -236,12 +302,18 @@ static inline const uint8_t *sm_bytes_at(const uint8_t *at) {
     static const uint8_t none = 0;
     return at != NULL ? at : &none;
 }
-/* Options that are not null, nor are their run ids if there are none. */
+/* Options that are not null, nor are their pieces of which there are no bytes. */
 static inline sm_options sm_whole(const sm_options *options) {
-    sm_options whole = {NULL, 0, 0, 0, 0};
+    sm_options whole = {NULL, 0, 0, 0, 0, NULL, 0, NULL, 0};
     if (options != NULL) whole = *options;
     if (whole.run_count == 0) whole.runs = sm_bytes_at(whole.runs);
+    if (whole.admission_bytes == 0) whole.admission = sm_bytes_at(whole.admission);
+    if (whole.system_bytes == 0) whole.system = sm_bytes_at(whole.system);
     return whole;
+}
+/* Whether bytes are missing of options that are whole. */
+static inline int sm_lacks(const sm_options *whole) {
+    return whole->runs == NULL || whole->admission == NULL || whole->system == NULL;
 }
 /* Frees what an answer holds, where a call is not made. */
 static inline uint32_t sm_no_answer(sm_answer *answer) {
@@ -257,14 +329,14 @@ static inline uint32_t sm_no_answer(sm_answer *answer) {
     SM_CALL(4) static inline uint32_t sm_checked_##name(const uint8_t *input, size_t input_bytes,                      \
                                                         const sm_options *options, sm_answer *answer) {                \
         sm_options whole = sm_whole(options);                                                                          \
-        if (sm_is_missing(input, input_bytes) || whole.runs == NULL) return sm_no_answer(answer);                      \
+        if (sm_is_missing(input, input_bytes) || sm_lacks(&whole)) return sm_no_answer(answer);                        \
         return sm_##name(sm_bytes_at(input), input_bytes, &whole, answer);                                             \
     }
 #define SM_CHECKED_GENERAL(name)                                                                                       \
     SM_CALL(5) static inline uint32_t sm_checked_##name(uint32_t general, const uint8_t *input, size_t input_bytes,    \
                                                         const sm_options *options, sm_answer *answer) {                \
         sm_options whole = sm_whole(options);                                                                          \
-        if (sm_is_missing(input, input_bytes) || whole.runs == NULL) return sm_no_answer(answer);                      \
+        if (sm_is_missing(input, input_bytes) || sm_lacks(&whole)) return sm_no_answer(answer);                        \
         return sm_##name(general, sm_bytes_at(input), input_bytes, &whole, answer);                                    \
     }
 SM_CHECKED_OPTIONS(audit)
@@ -277,12 +349,37 @@ SM_CHECKED(explain)
 SM_CHECKED(words)
 SM_CHECKED(plan)
 SM_CHECKED(run_id)
+SM_CHECKED(identity)
 SM_CHECKED_GENERAL(accuse)
 SM_CHECKED_GENERAL(receipt)
 SM_CALL(5) static inline uint32_t sm_checked_refute(const uint8_t *evidence, size_t evidence_bytes, const uint8_t *log,
                                                     size_t log_bytes, sm_answer *answer) {
     if (sm_is_missing(evidence, evidence_bytes) || sm_is_missing(log, log_bytes)) return sm_no_answer(answer);
     return sm_refute(sm_bytes_at(evidence), evidence_bytes, sm_bytes_at(log), log_bytes, answer);
+}
+SM_CALL(5) static inline uint32_t sm_checked_enroll(uint32_t version, uint32_t levels, const uint8_t *secret,
+                                                    size_t secret_bytes, sm_answer *answer) {
+    if (sm_is_missing(secret, secret_bytes)) return sm_no_answer(answer);
+    return sm_enroll(version, levels, sm_bytes_at(secret), secret_bytes, answer);
+}
+SM_CALL(4, 7)
+static inline uint32_t sm_checked_system(uint32_t version, uint32_t levels, uint32_t turns, const uint8_t context[32],
+                                         const uint8_t *text, size_t text_bytes, sm_answer *answer) {
+    if (sm_is_missing(text, text_bytes)) return sm_no_answer(answer);
+    return sm_system(version, levels, turns, context, sm_bytes_at(text), text_bytes, answer);
+}
+SM_CALL(6) static inline uint32_t sm_checked_admission(uint32_t run, const uint8_t *system, size_t system_bytes,
+                                                       const sm_roots *files, size_t file_count, sm_answer *answer) {
+    const sm_roots none = {0, sm_bytes_at(NULL), 0};
+    if (sm_is_missing(system, system_bytes) || sm_is_missing(files, file_count)) return sm_no_answer(answer);
+    for (size_t at = 0; at < file_count; at++)
+        if (files[at].roots == NULL) return sm_no_answer(answer);
+    return sm_admission(run, sm_bytes_at(system), system_bytes, files ? files : &none, file_count, answer);
+}
+SM_CALL(6) static inline uint32_t sm_checked_admit(uint32_t run, const uint8_t *admission, size_t admission_bytes,
+                                                   const uint8_t *system, size_t system_bytes, sm_answer *answer) {
+    if (sm_is_missing(admission, admission_bytes) || sm_is_missing(system, system_bytes)) return sm_no_answer(answer);
+    return sm_admit(run, sm_bytes_at(admission), admission_bytes, sm_bytes_at(system), system_bytes, answer);
 }
 SM_CALL(4) static inline uint32_t sm_checked_answer_text(sm_answer *answer, uint8_t *room, size_t room_bytes,
                                                          size_t *count) {
@@ -314,6 +411,11 @@ SM_CALL(4) static inline uint32_t sm_checked_answer_facts(sm_answer *answer, sm_
 #define sm_words sm_checked_words
 #define sm_plan sm_checked_plan
 #define sm_run_id sm_checked_run_id
+#define sm_enroll sm_checked_enroll
+#define sm_identity sm_checked_identity
+#define sm_system sm_checked_system
+#define sm_admission sm_checked_admission
+#define sm_admit sm_checked_admit
 #define sm_answer_text sm_checked_answer_text
 #define sm_answer_facts sm_checked_answer_facts
 #endif

@@ -22,12 +22,13 @@
    returns each of them. sm_status.h has them, and what may change between versions.
 
      SM_OK       it was done
-     SM_NO       it was done, and the answer is a no: of sm_node_shown alone
+     SM_NO       it was done, and the answer is a no: of sm_node_shown and sm_node_next_run alone
      SM_MISUSE   the call is not allowed here, or a pointer is null though there are bytes, and nothing was changed
      SM_FAULT    the input has a fault, and nothing was changed: *fault is its number
      SM_MEMORY   memory was refused, and the same call may be made again
      SM_LENGTH   the bytes are longer than the room, and nothing was changed: call again with room for *count bytes
-     SM_OTHER    the receipts are of another run than the one that is expected: of sm_node_shown alone
+     SM_OTHER    the receipts are of another run than the one that is expected, or the record is of another system: of
+                 sm_node_shown and sm_node_state_seed alone
 
    At SM_MEMORY nothing was changed, but by two functions: after sm_node_begin_round a round may be half begun, and
    after sm_node_end_round half ended. The same call continues it, and nothing is signed twice. Until it is done,
@@ -73,6 +74,9 @@ extern "C" {
 
 /* In place of an order: the general has none of its own, as every general but the commander, or no order is told. */
 enum { SM_NO_ORDER = 255 };
+
+/* In place of the number of a run: no run was begun, or no run is told. */
+#define SM_NO_RUN UINT32_MAX
 
 /* The numbers of faults. docs/FORMATS.md says what H1 to H11, F1 to F8, B1 to B9 and Q1 to Q5
    are. */
@@ -286,6 +290,45 @@ uint32_t sm_node_may_end(sm_node *node, uint32_t *may) SM_CALL(1, 2);
 /* Tells whether sm_node_finish may be called, 1 or 0: the last round has ended. SM_MISUSE if there is no node, or it
    has ended; then *is_over is 0. Returns SM_OK or SM_MISUSE. */
 uint32_t sm_node_is_over(sm_node *node, uint32_t *is_over) SM_CALL(1, 2);
+
+/* Makes the record of the state of a secret for set 0, which serves the system with this id. A record has 68 bytes: the
+   number of the set, the state, and the id of the system. It is as secret as the secret. A secret serves one system.
+   The caller keeps the newest record in the place of the one before, durably, before it uses the seed of its set:
+   docs/IDENTITIES.md says more. Neither secret nor records are wiped. Returns SM_OK. */
+uint32_t sm_node_state(const uint8_t secret[32], const uint8_t system[32], uint8_t state[68]) SM_CALL(1, 2, 3);
+
+/* Tells the number of the set of a record. Each 68 bytes are a record, whose first four are the number, big-endian.
+   Returns SM_OK. */
+uint32_t sm_node_state_set(const uint8_t state[68], uint32_t *set) SM_CALL(1, 2);
+
+/* Makes the seed of the set of a record, of which sm_node_keys makes the keys of its runs. The record stays.
+
+     SM_OTHER    the record serves another system than the one with this id. What was in seed stays
+
+   Returns SM_OK or SM_OTHER. */
+uint32_t sm_node_state_seed(const uint8_t state[68], const uint8_t system[32], uint8_t seed[32]) SM_CALL(1, 2, 3);
+
+/* Makes the record of a later set, or of the same, in the place of a record: for the next set, or for a node that was
+   down. No seed of an earlier set can be made of it. The call hashes once for each set between. The last number of a
+   set is 2^32 - 1, and a system has at most 2^20 sets.
+
+     SM_MISUSE   the set is earlier than the record's, which stays as it is
+
+   Returns SM_OK or SM_MISUSE. */
+uint32_t sm_node_state_advance(uint8_t state[68], uint32_t set) SM_CALL(1);
+
+/* Tells which run of a system a node begins next, and when that run begins. The times are whole numbers of one unit, as
+   milliseconds since 1970. `start` is when run 0 begins, and run r begins at start + r * period. The mark is the number of
+   the newest run that the node has begun, or SM_NO_RUN. The caller keeps it, durably, before the run signs. The next run is
+   the least above the mark that begins at `now` or later. So the node begins no run twice, also if the clock is set back.
+   Nodes that read the same clock begin the same run next, unless one has begun another's or a later one.
+
+     SM_NO       there is no such run: each of the 2^22 that a system can have is at the mark or below it, begins before
+                 `now`, or begins after INT64_MAX. Then *run is SM_NO_RUN, and *begins is 0
+
+   A system can have fewer runs: the caller compares. Returns SM_OK or SM_NO. */
+uint32_t sm_node_next_run(int64_t now, int64_t start, uint64_t period, uint32_t mark, uint32_t *run, int64_t *begins)
+    SM_CALL(5, 6);
 
 /* The number of the version of the archive, which is SM_VERSION_NUMBER if the header is of the same version. */
 uint32_t sm_node_version(void);

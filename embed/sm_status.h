@@ -44,7 +44,7 @@ enum sm_status {
     SM_MEMORY = 4, /* memory was refused: the same call may be made again */
     SM_LENGTH = 5, /* what is to be written is longer than the room, and its length is told */
     SM_NOBODY = 6, /* the general is none of the run's */
-    SM_OTHER = 7   /* the input is of another run than the one that is expected */
+    SM_OTHER = 7   /* the input is of another run or system than the one that is expected */
 };
 
 /* Old names of statuses, which the next version does not have. */
@@ -55,17 +55,23 @@ enum sm_status {
 #define SM_REFUSED SM_MEMORY
 #define SM_SHORT SM_LENGTH
 
-/* The sizes of a seed, of a root of keys and of a run id, the most bytes of a header, the most generals, orders and
-   logs of a bundle, and the most runs of a campaign. */
+/* The sizes of a seed, of a root of keys, of a run id, of a secret, of the id and the context of a system, and of the
+   record of the state of a secret. The most bytes of a header, the most generals, orders and logs of a bundle, the most
+   runs of a campaign, and the most levels of an identity. */
 enum {
     SM_SEED_BYTES = 32,
     SM_ROOT_BYTES = 32,
     SM_RUN_ID_BYTES = 32,
+    SM_SECRET_BYTES = 32,
+    SM_SYSTEM_ID_BYTES = 32,
+    SM_CONTEXT_BYTES = 32,
+    SM_STATE_BYTES = 68,
     SM_HEADER_MOST = 760,
     SM_GENERALS_MOST = 16,
     SM_ORDERS_MOST = 15,
     SM_LOGS_MOST = 64,
-    SM_RUNS_MOST = 4
+    SM_RUNS_MOST = 4,
+    SM_LEVELS_MOST = 20
 };
 
 /* The name of a status in words. It is never null, and stays as it is. */
@@ -78,7 +84,7 @@ static inline const char *sm_status_text(uint32_t status) {
     case SM_MEMORY: return "memory was refused";
     case SM_LENGTH: return "the room is too short";
     case SM_NOBODY: return "the general is none of the run's";
-    case SM_OTHER: return "the input is of another run";
+    case SM_OTHER: return "the input is of another run or system";
     default: return "a status that this header does not know";
     }
 }

@@ -47,13 +47,14 @@ def answer(words: List[str], given: bytes) -> Tuple[int, bytes, bytes]:
 def answer_files(job: Job, standard: Callable[[], bytes]) -> Tuple[int, bytes, bytes]:
     """The status, the standard output and the standard error of a job on its files, which are read in the order of the words."""
     inputs: List[bytes] = []
-    for name in job.sources():
+    for place, name in enumerate(job.sources()):
+        asking = job.asking(place)
         try:
             inputs.append(standard() if name == "-" else read_file(name))
         except NotOpened as error:
-            return failed(job, 5, "open failed", f"cannot open {called(name)}: {reason(error.args[0])}\n", b"")
+            return failed(asking, 5, "open failed", f"cannot open {called(name)}: {reason(error.args[0])}\n", b"")
         except NotRead as error:
-            return not_read(job, name, reason(error.args[1]), error.args[0])
+            return not_read(asking, name, reason(error.args[1]), error.args[0])
         if len(inputs[-1]) > LONGEST_INPUT:
             break
     return answer_job(job, inputs)

@@ -20,16 +20,19 @@ EMBED = os.path.join(TOP, "embed")
 sys.path[:0] = [EMBED, os.path.join(EMBED, "python"), os.path.join(EMBED, "page")]
 import example  # noqa: E402
 import make_page  # noqa: E402
-from vamuretu import _faults, _headers, _jobs, _libraries, _nodes  # noqa: E402
+from vamuretu import _clock, _faults, _headers, _jobs, _libraries, _nodes  # noqa: E402
 
 # The types of parameters in C, each with those of Python that are passed for it.
 OF_PYTHON = {
     "uint32_t": ctypes.c_uint32,
+    "uint64_t": ctypes.c_uint64,
+    "int64_t": ctypes.c_int64,
     "size_t": ctypes.c_size_t,
     "const uint8_t *": ctypes.c_char_p,
     "uint8_t *": ctypes.c_char_p,
     "size_t *": ctypes.POINTER(ctypes.c_size_t),
     "uint32_t *": ctypes.POINTER(ctypes.c_uint32),
+    "int64_t *": ctypes.POINTER(ctypes.c_int64),
     "sm_answer *": ctypes.POINTER(ctypes.c_void_p),
     "sm_node *": ctypes.c_void_p,
 }
@@ -38,7 +41,7 @@ STRUCTS = {it.__doc__.strip("`."): it for it in vars(_libraries).values() if cty
 for name, struct in STRUCTS.items():
     OF_PYTHON[f"{name} *"] = OF_PYTHON[f"const {name} *"] = ctypes.POINTER(struct)
 # What Rust calls the numbers of C, and the struct that has a shorter name there.
-OF_RUST = {"u8": "uint8_t", "u32": "uint32_t", "u64": "uint64_t", "usize": "size_t", "Fact": "sm_fact"}
+OF_RUST = {"u8": "uint8_t", "u32": "uint32_t", "u64": "uint64_t", "i64": "int64_t", "usize": "size_t", "Fact": "sm_fact"}
 # The statuses and other numbers that the packages and the page repeat, by their names in the headers.
 PYTHON_NUMBERS = {
     _jobs: {"YES": "SM_OK", "NO": "SM_NO", "MISUSE": "SM_MISUSE", "FAULT": "SM_FAULT", "MEMORY": "SM_MEMORY",
@@ -48,10 +51,11 @@ PYTHON_NUMBERS = {
                "ROOT_BYTES": "SM_ROOT_BYTES"},
     _libraries: {"SHORT": "SM_LENGTH", "VERSION_NUMBER": "SM_VERSION_NUMBER"},
     _nodes: {"NO_ORDER": "SM_NO_ORDER", "GENERALS": "SM_GENERALS_MOST"},
+    _clock: {"NO": "SM_NO", "NO_RUN": "SM_NO_RUN"},
 }
 RUST_NUMBERS = {"OK": "SM_OK", "NO": "SM_NO", "FAULT": "SM_FAULT", "MEMORY": "SM_MEMORY", "SHORT": "SM_LENGTH",
                 "NOBODY": "SM_NOBODY", "OTHER": "SM_OTHER", "TEXT": "SM_TEXT", "JSON": "SM_JSON",
-                "NO_ORDER": "SM_NO_ORDER", "VERSION_NUMBER": "SM_VERSION_NUMBER", "FACT_RUN": "SM_FACT_RUN",
+                "NO_ORDER": "SM_NO_ORDER", "NO_RUN": "SM_NO_RUN", "VERSION_NUMBER": "SM_VERSION_NUMBER", "FACT_RUN": "SM_FACT_RUN",
                 "FACT_STATUS": "SM_FACT_STATUS", "FACT_DECISION": "SM_FACT_DECISION",
                 "FACT_FINDING": "SM_FACT_FINDING", "FACT_CONVICTION": "SM_FACT_CONVICTION",
                 "FACT_ACROSS": "SM_FACT_ACROSS", "FACT_EQUAL_ROOTS": "SM_FACT_EQUAL_ROOTS",
@@ -106,14 +110,14 @@ def structs_of_c(text):
 
 
 def numbers_of_c(text):
-    """The numbers that the enums of a header name."""
+    """The numbers that a header names."""
     found = {}
     for inside in re.findall(r"\benum(?: \w+)? \{(.*?)\};", without_comments(text), re.DOTALL):
         last = -1
         for part in parts_of(inside):
             name, _, value = map(str.strip, part.partition("="))
             found[name] = last = int(value) if value else last + 1
-    return found
+    return found | {name: 2**32 - 1 for name in re.findall(r"^#define (SM_\w+) UINT32_MAX$", text, re.MULTILINE)}
 
 
 def in_c(name):
@@ -144,7 +148,7 @@ def functions_of_rust(text):
 def types_of_source(text):
     """The types of C that a parameter of an exported function stands for: a slice is a pointer and a length."""
     plain = re.sub(r"'\w+ |<'\w+>", "", text)
-    mutable, slices, name = re.fullmatch(r"&(mut )?(\[*)(\w+)(?:; \d+)?\]*(?:; \d+)?\]?", plain).groups()
+    mutable, slices, name = re.fullmatch(r"&(mut )?(\[*)(\w+)(?:; \w+)?\]*(?:; \d+)?\]?", plain).groups()
     pointer = f"{'' if mutable else 'const '}{in_c(name)} *"
     is_slice = slices == "[[" or slices == "[" and ";" not in text
     return [pointer, "size_t"] if is_slice else [pointer]
@@ -249,9 +253,12 @@ def structs_of_rust(text):
 
 
 def fields_of_rust(name, said):
-    """The fields of C that one of Rust stands for: a slice `runs` is `runs` and `run_count`."""
+    """The fields of C that one of Rust stands for: a slice `runs` is `runs` and `run_count`, and one of bytes `roots` is `roots`
+    and `roots_bytes`.
+    """
     if said.startswith("&"):
-        return list(zip([name, f"{name[:-1]}_count"], types_of_source(said)))
+        length = f"{name[:-1]}_count" if "[[" in said else f"{name}_bytes"
+        return list(zip([name, length], types_of_source(said)))
     return [(name, re.sub(r"^\w+ \*$", "void *", type_of_rust(said)))]
 
 

@@ -58,7 +58,8 @@ def commands():
     another line of help tells in each command stands behind the name of the command.
     """
     text, source = read(DOCUMENT), read(SOURCE)
-    heads = {head.split()[0]: re.findall(r"--[\w-]+", head) for head in re.findall(r"^### (.+)$", text, re.MULTILINE)}
+    heads = {head.split()[0]: re.findall(r"--[\w-]+", head) for head in re.findall(r"^    sm_tool ([a-z].+)$", text, re.MULTILINE)}
+    heads.pop("help", None)
     does = lines_of_help(source, r'CommandBuilder::new\(\s*alloc,\s*"([\w-]+)",\s*(\w+)')
     says = lines_of_help(source, r'(?:option|flag)_named\(\s*alloc,\s*"([\w-]+)",(?:\s*"[A-Z]+",)?\s*(\w+|"[^"]*")')
     generals = generals_of_help(source)

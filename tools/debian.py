@@ -12,17 +12,43 @@ Version: {version}
 Architecture: amd64
 Maintainer: Vamuretu maintainers <maintainers@users.noreply.vamuretu.example>
 Installed-Size: {kilobytes}
-Depends: libc6 (>= {glibc})
+Depends: {depends}
+Suggests: systemd, sqlite3, zstd
 Section: utils
 Priority: optional
 Description: signed Byzantine agreement that can be audited
  Several controllers decide on one value, though some of them may lie, and each
  keeps a signed log. The program sm_tool judges a run from the logs alone. Two
- libraries for C judge runs, and run one node of such a system.
+ libraries for C judge runs, and run one node of such a system. The program
+ vamuretu, where it was built, runs a node of a system that goes on, or watches
+ all runs of it.
  .
- The program and the code of the libraries are proved to keep their contracts.
- The file PROVED in /usr/share/doc/vamuretu says from which sources.
+ The program sm_tool and the code of the libraries are proved to keep their
+ contracts. The file PROVED in /usr/share/doc/vamuretu says from which sources.
 """
+# The package of each shared library that the program vamuretu may want. Those of glibc are one package.
+OF_LIBRARIES = {"libsqlite3.so.0": "libsqlite3-0", "libzstd.so.1": "libzstd1", "libgcc_s.so.1": "libgcc-s1"}
+OF_GLIBC = ("libc.so.6", "libm.so.6", "ld-linux-x86-64.so.2", "libpthread.so.0", "libdl.so.2", "librt.so.1")
+# What dpkg starts for the program vamuretu. Nodes are not started again for a newer package, since each that is started again
+# counts as faulty in the runs that it misses. A purge leaves /etc/vamuretu, and what nodes and watchers have kept.
+SCRIPTS = {"postinst": """#!/bin/sh
+set -e
+if [ "$1" = configure ]; then
+    # Without this program systemd makes the users when it starts.
+    ! command -v systemd-sysusers >/dev/null || systemd-sysusers /usr/lib/sysusers.d/vamuretu.conf
+    [ ! -d /run/systemd/system ] || systemctl daemon-reload
+fi
+""", "prerm": """#!/bin/sh
+set -e
+if [ "$1" = remove ] && [ -d /run/systemd/system ]; then
+    systemctl stop 'vamuretu-node@*.service' vamuretu-watch.service
+fi
+""", "postrm": """#!/bin/sh
+set -e
+[ "$1" != purge ] || rm -f /etc/systemd/system/multi-user.target.wants/vamuretu-watch.service \\
+    /etc/systemd/system/multi-user.target.wants/vamuretu-node@*.service
+[ ! -d /run/systemd/system ] || systemctl daemon-reload
+"""}
 COPYRIGHT = """Format: https://www.debian.org/doc/packaging-manuals/copyright-format/1.0/
 Upstream-Name: vamuretu
 
@@ -93,12 +119,29 @@ def put_documents(root, tree, version, seconds):
             os.remove(f"{at}/{name}")
 
 
-def put_control(root, tree, version):
+def depends(tree, run):
+    """The packages of what the programs want."""
+    glibc, nodes = re.search(r"^glibc (\S+)", read(f"{tree}/PROVED").decode(), re.M)[1], f"{tree}/bin/vamuretu"
+    wanted = re.findall(r"\(NEEDED\).*\[(.*)\]", run("readelf", "-d", nodes)) if os.path.exists(nodes) else []
+    unknown = {*wanted} - {*OF_LIBRARIES} - {*OF_GLIBC}
+    if unknown:
+        raise LookupError(f"tools/debian.py knows no package that has {min(unknown)}")
+    return ", ".join([f"libc6 (>= {glibc})", *sorted(OF_LIBRARIES[it] for it in wanted if it in OF_LIBRARIES)])
+
+
+def put_scripts(root):
+    """What dpkg starts, and the folder of the configurations."""
+    os.makedirs(f"{root}/etc/vamuretu")
+    for name, text in SCRIPTS.items():
+        write(f"{root}/DEBIAN/{name}", text.encode())
+        os.chmod(f"{root}/DEBIAN/{name}", 0o755)
+
+
+def put_control(root, tree, version, run):
     """The files of DEBIAN/."""
-    glibc = re.search(r"^glibc (\S+)", read(f"{tree}/PROVED").decode(), re.M)[1]
     files = [name for name in names_of(root) if not os.path.islink(f"{root}/{name}")]
     kilobytes = sum(-(-os.path.getsize(f"{root}/{name}") // 1024) for name in files)
-    write(f"{root}/DEBIAN/control", FIELDS.format(version=version, kilobytes=kilobytes, glibc=glibc).encode())
+    write(f"{root}/DEBIAN/control", FIELDS.format(version=version, kilobytes=kilobytes, depends=depends(tree, run)).encode())
     sums = (f"{hashlib.md5(read(f'{root}/{name}')).hexdigest()}  {name}\n" for name in files)
     write(f"{root}/DEBIAN/md5sums", "".join(sums).encode())
     least = version.partition("+")[0]
@@ -115,7 +158,9 @@ def package(tree, scratch, version, seconds, run):
     os.remove(f"{root}/usr/share/vamuretu/install.sh")
     os.remove(f"{root}/usr/share/vamuretu/files")
     put_documents(root, tree, version, seconds)
-    put_control(root, tree, version)
+    put_control(root, tree, version, run)
+    if os.path.exists(f"{tree}/bin/vamuretu"):
+        put_scripts(root)
     for at, folders, names in os.walk(root):
         os.chmod(at, 0o755)
         for name in names:

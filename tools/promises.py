@@ -7,6 +7,7 @@ A promise is an item that begins with an anchor. Its last line has definitions, 
 Definitions and calls stand in backticks, the first of each file as a link to it. Each definition has to be declared in the file of
 `specs/` whose link it is or stands behind. Each name of the calls has to be a function, a type, a clause or a law of a file of
 `src/` that is linked there, or a definition or a field of a file that is linked before the colon.
+Each law of a file `laws.rt` has to be public, and asks nothing of its caller.
 The numbers of lines that the reading order of promise 1 tells of its two tables have to be those of the linked files, to 25
 lines: of lines that are neither comment, import nor blank.
 It prints nothing, and its status is 0, where all is as the page says.
@@ -97,9 +98,17 @@ def wrong_sizes():
         yield f"{PAGE}: the files of promise 1 have {found} lines, and the page tells {told}"
 
 
+def wrong_laws():
+    """The files of laws in which a law can't be called from outside, or only where something holds."""
+    for path in sorted(pathlib.Path("crates").glob("*/src/laws.rt")):
+        if re.search(r"^\s*requires\b|^fn |^pub\(", path.read_text(encoding="utf-8"), re.MULTILINE):
+            yield f"{path}: a law is private, or has a premise beside its statement"
+
+
 def wrong():
     """What is wrong, a line for each."""
     yield from wrong_sizes()
+    yield from wrong_laws()
     found = list(promises())
     if not found:
         yield f"{PAGE} has no promises"

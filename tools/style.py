@@ -42,6 +42,7 @@ KEPT = [
     "docs/PROMISES.md",
     "docs/PROTOCOL.md",
     "docs/README.md",
+    "docs/RECORDS.md",
     "docs/ROWS.md",
     "docs/SYSTEM.md",
     "docs/WALK.md",

@@ -35,6 +35,7 @@ COPIES = [
     ("embed/python/pyproject.toml", '\nversion = "{version}"\n'),
     ("embed/python/vamuretu/_libraries.py", "\nVERSION_NUMBER = {number}\n", 'as "{version}"'),
     ("embed/python/README.md", '`"{version}"`'),
+    ("vamuretu/Cargo.toml", '\nversion = "{version}"\n'),
     ("embed/rust/Cargo.toml", '\nversion = "{version}"\n'),
     ("embed/rust/Cargo.lock", 'name = "vamuretu"\nversion = "{version}"\n'),
     ("embed/rust/src/jobs.rs", "const VERSION_NUMBER: u32 = {number};", "as `{version}`"),
@@ -43,10 +44,9 @@ COPIES = [
     ("docs/EMBED.md", "`libsm_embed.so.{short}`"),
     ("INSTALL.md", "vamuretu-{version}-x86_64-linux", "vamuretu_{version}_amd64.deb", "find_package(vamuretu {short} "),
     ("INSTALL.md", "`libsm_embed.so.{short}`"),
-    ("examples/archive/kubernetes.yaml", "vamuretu:{version}\n"),
 ]
 # What is made with the version, tells versions of before, or has numbers of its own.
-APART = ("man/", "CHANGELOG.md", "out/", ".git/", "docs/DECISIONS.md")
+APART = ("man/", "CHANGELOG.md", "out/", ".git/", "docs/DECISIONS.md", "vamuretu/Cargo.lock")
 FORMS = {"version": r"\d+\.\d+\.\d+", "short": r"\d+\.\d+", "number": r"\d+"}
 
 

@@ -4,7 +4,8 @@ Their archives are those of embed.py and nodes.py; without them, or without a co
 Without cargo the crate is left out. The tests and the examples of both have to pass. The package is also tried over a heap that
 refuses (refusing_heap.c). Both answer as the program does on each
 file of examples/. Two runs of four nodes are driven by both: all nodes in version 1, and a ring in slot 1 of which one node
-never begins. Their logs, and the bundles of these, are byte for byte those of the program's runs.
+never begins. Their logs, and the bundles of these, are byte for byte those of the program's runs. Of both the example that keeps a
+state (keep.py, keep.rs) is killed at each point (keepers.py).
 """
 import json
 import os
@@ -12,9 +13,12 @@ import shutil
 import sys
 import tempfile
 
+from disks import build_killer
 from embed import ARCHIVE as JOBS, EMBED, TOP, WARNINGS, IsNotBuilt, do, first_wrong, source, words_of
+from keepers import PackageKeeper, StateKeeper, keeper_wrong
 from layout import Bundle
 from nodes import ARCHIVE as NODES
+from processes import OF_C
 from programs import End, by_library, run, side_by_side
 from refusals import EXAMPLES
 from scenarios import header_text, signed
@@ -28,12 +32,12 @@ WORDS += [[it, "--json"] for it in ("audit", "evidence", "receipts", "decide", "
 WORDS += [[it, str(general)] for it in ("accuse", "receipt") for general in (0, 1, 15)]
 
 
-def build_libraries(folder, source_of_heap):
+def build_libraries(folder, source_of_heap, archives=None):
     """The folder that VAMURETU_LIBRARIES has to name: the shared libraries, over a heap, and the archives."""
     os.mkdir(folder)
     heap = os.path.join(folder, "heap.o")
     do(["cc", "-std=c11", "-O2", *WARNINGS, "-fPIC", "-c", source_of_heap, "-o", heap])
-    for name, archive in ARCHIVES.items():
+    for name, archive in (archives or ARCHIVES).items():
         whole = ["-Wl,--whole-archive", archive, "-Wl,--no-whole-archive"]
         do(["cc", "-shared", heap, *whole, "-o", os.path.join(folder, f"lib{name}.so")])
         os.symlink(archive, os.path.join(folder, f"lib{name}.a"))
@@ -136,6 +140,23 @@ def try_refusals(tally, folder):
     tally.hold("Python, memory", tests_wrong(words, cwd=PYTHON, env=given))
 
 
+def build_second(folder):
+    """The keeper in C, which takes the seeds of states that a package has kept."""
+    made = {name: [os.path.join(folder, f"{name}.built")] for name in ("state", "header")}
+    for name, (path,) in made.items():
+        do([*OF_C, source(f"nodes/{name}.c"), source("heap.c"), NODES, "-o", path])
+    return StateKeeper(made)
+
+
+def try_keeper(tally, folder, name, program, environ):
+    """The example of a package that keeps a state, killed at each point. The paths of files of state.c are short."""
+    with tempfile.TemporaryDirectory(dir="/tmp") as own:
+        keeper, second, killer = PackageKeeper(program, environ), build_second(folder), build_killer(folder)
+        wrong, runs = keeper_wrong(keeper, second, killer, own)
+        tally.hold(f"{name}, each point of a state", wrong)
+        tally.count(runs)
+
+
 def try_python(program, tally, folder):
     """The package, in processes of its own for its tests and its example, and in this process."""
     sys.path.insert(0, PYTHON)
@@ -146,6 +167,8 @@ def try_python(program, tally, folder):
     tests = [sys.executable, "-B", "-m", "unittest", "discover", "-s", "tests", "-t", "."]
     tally.hold("Python, its tests", tests_wrong(tests, cwd=PYTHON, env=given))
     tally.hold("Python, its example", verdict_wrong([sys.executable, "-B", "example.py"], cwd=PYTHON, env=given))
+    keep = [sys.executable, "-B", os.path.join(PYTHON, "keep.py")]
+    try_keeper(tally, folder, "Python", keep, {"VAMURETU_LIBRARIES": folder})
     vamuretu.use_libraries(folder)
     cases = example_cases()
     wanted = side_by_side(lambda case: by_library(run(program, words_of(case[0]), case[1])), cases)
@@ -171,6 +194,7 @@ def try_rust(tally, folder, cases, wanted):
     tally.hold("Rust, its example over a pool", verdict_wrong(["cargo", "run", *OFFLINE, "--example", "agree"], cwd=RUST, env=pool))
     built = os.path.join(target, "debug", "examples")
     tally.hold("Rust, its example", verdict_wrong([os.path.join(built, "agree")]))
+    try_keeper(tally, folder, "Rust", [os.path.join(built, "keep")], {})
     judge = os.path.join(built, "judge")
     tally.hold("Rust, examples", first_wrong(lambda job, given: run(judge, job, given), cases, wanted))
     general = [run(judge, ["accuse", bad], cases[0][1]).status for bad in ("16", "4294967296", "-1", "")]

@@ -4,7 +4,7 @@
    and DIE is `before` it, `within` it (of a write half of the bytes are written), or `after` it. The file that CALLS_TO
    names gets a line for each call that was done, with the name of the file in its folder: `open 0.log`, `write
    0.log.new 100`, `fsync 0.log`, `rename 0.log.new 0.log`, `unlink 0`, `bind`, `send`. The folder with the file that
-   CALLS_TO names has the name `.`, as in `fsync .`, and another folder has the name `..`. */
+   CALLS_TO names has the name `.`, as in `fsync .`, the folder above it the name `..`, and another one its own. */
 #define _GNU_SOURCE
 #include <dlfcn.h>
 #include <fcntl.h>
@@ -31,15 +31,21 @@ static const char *last(const char *path) {
     return cut == NULL ? path : cut + 1;
 }
 
-/* The name of an open folder: whether it is the one with the file that CALLS_TO names. */
-static const char *folder_name(const struct stat *state) {
+/* Whether an open folder is the one at a place beside the file that CALLS_TO names. */
+static int is_beside(const char *to, const char *place, const struct stat *state) {
     char path[4096];
-    const char *to = getenv("CALLS_TO");
     struct stat own;
-    if (to == NULL) return "..";
-    snprintf(path, sizeof path, "%.*s.", (int)(last(to) - to), to);
+    snprintf(path, sizeof path, "%.*s%s", (int)(last(to) - to), to, place);
     if (stat(path, &own) != 0) _exit(99);
-    return own.st_dev == state->st_dev && own.st_ino == state->st_ino ? "." : "..";
+    return own.st_dev == state->st_dev && own.st_ino == state->st_ino;
+}
+
+/* The name of an open folder, by its path. */
+static const char *folder_name(const char *path, const struct stat *state) {
+    const char *to = getenv("CALLS_TO");
+    if (to == NULL) return "..";
+    if (is_beside(to, ".", state)) return ".";
+    return is_beside(to, "..", state) ? ".." : last(path);
 }
 
 /* The name of an open file in its folder, or of an open folder. */
@@ -51,7 +57,7 @@ static const char *name_of(int file) {
     ssize_t length = readlink(link, path, sizeof path - 1);
     if (length < 0 || fstat(file, &state) != 0) _exit(99);
     path[length] = '\0';
-    return S_ISDIR(state.st_mode) ? folder_name(&state) : last(path);
+    return S_ISDIR(state.st_mode) ? folder_name(path, &state) : last(path);
 }
 
 /* Whether the process dies so at the call whose number was counted last. */
@@ -81,16 +87,30 @@ static void done(const char *call, const char *name, const char *more) {
     die_if("after");
 }
 
-int open(const char *path, int flags, ...) {
-    va_list rest;
-    va_start(rest, flags);
-    mode_t mode = flags & O_CREAT ? va_arg(rest, mode_t) : 0;
-    va_end(rest);
+/* Opens a file by this mode, and counts it if the file may be made. */
+static int opened(const char *path, int flags, mode_t mode) {
     if (!(flags & O_CREAT)) return ((open_call *)real("open"))(path, flags);
     begin();
     int file = ((open_call *)real("open"))(path, flags, mode);
     if (file >= 0) done("open", last(path), "");
     return file;
+}
+
+int open(const char *path, int flags, ...) {
+    va_list rest;
+    va_start(rest, flags);
+    mode_t mode = flags & O_CREAT ? va_arg(rest, mode_t) : 0;
+    va_end(rest);
+    return opened(path, flags, mode);
+}
+
+/* The same call, by the name that Python and Rust have for it. */
+int open64(const char *path, int flags, ...) {
+    va_list rest;
+    va_start(rest, flags);
+    mode_t mode = flags & O_CREAT ? va_arg(rest, mode_t) : 0;
+    va_end(rest);
+    return opened(path, flags, mode);
 }
 
 ssize_t write(int file, const void *bytes, size_t length) {

@@ -25,7 +25,7 @@ TOP = os.path.dirname(HERE)
 EMBED = os.path.join(TOP, "embed")
 sys.path.insert(0, os.path.join(TOP, "tools"))
 from abi import functions_of_header  # noqa: E402
-from vamuretu._libraries import Fact, Options  # noqa: E402
+from vamuretu._libraries import Fact, Options, Roots  # noqa: E402
 ARCHIVE = os.path.join(TOP, "crates", "sm_embed", "out", "libsm_embed.a")
 # The bytes of a run id, and how much is shown of what came.
 ID_BYTES, SHOWN = 32, 60
@@ -50,10 +50,13 @@ def kind_of(name, said):
 
 
 def declared():
-    """What each call takes that makes an answer of an input, in its order."""
+    """What each call takes that makes an answer of an input, in its order. Those that take a part of a fixed length, or files, are
+    in system_calls.py alone, and so is sm_enroll, which makes keys.
+    """
     functions = functions_of_header("sm_embed")
     kinds = {name: list(filter(None, (kind_of(*it) for it in parameters))) for name, (parameters, _) in functions.items()}
-    return {name: takes for name, takes in kinds.items() if "answer" in takes and not name.startswith("sm_answer_")}
+    others = ("sm_answer_text", "sm_answer_facts", "sm_answer_free", "sm_enroll", "sm_system", "sm_admission")
+    return {name: takes for name, takes in kinds.items() if "answer" in takes and name not in others}
 
 
 CALLS = declared()
@@ -73,6 +76,12 @@ def build_shared(folder):
     return made
 
 
+def options_of(runs, strict=0, form=0, receipts=0, admission=b"", system=b""):
+    """Options: run ids one after another, how strictly, the form, whether the input is receipts, an admission, and the id of its system."""
+    lengths = {"admission_bytes": len(admission), "system_bytes": len(system)}
+    return Options(runs, len(runs) // ID_BYTES, strict, form, receipts, admission=admission, system=system, **lengths)
+
+
 class Native:
     """The calls of a shared library."""
 
@@ -88,7 +97,11 @@ class Native:
             if kind == "number":
                 words.append(ctypes.c_uint32(it))
             elif kind == "options":
-                words.append(ctypes.byref(Options(it[0], len(it[0]) // ID_BYTES, *it[1:])))
+                words.append(ctypes.byref(options_of(*it)))
+            elif kind == "fixed":
+                words.append(it)
+            elif kind == "files":
+                words += [(Roots * len(it))(*(Roots(node, file, len(file)) for node, file in it)), ctypes.c_size_t(len(it))]
             elif kind == "answer":
                 words.append(ctypes.byref(answer))
             else:

@@ -4,16 +4,21 @@ A case is a system of 2 to 5 nodes, as it is drawn: its network, the height of i
 become files of roots, these become identities, the text of a header becomes a system, and that becomes an admission, from which
 the headers of the runs of a set come. Each command is asked of both, and standard output, standard error and status are the same.
 Beside that the ids are hashes that are made here. The roots are those that `root` makes of the seeds of the sets. The header of a
-run is the one that `header` makes of the text of the run's own network. Then each fault of each input comes, with bent inputs and
-words that ask for nothing.
+run is the one that `header` makes of the text of the run's own network. Each command that takes an admission gets inputs of runs of
+the system (admitted.py). Then each fault of each input comes, with bent inputs and words that ask for nothing. An enroll that is
+killed leaves a front of its file, which `--resume` ends, and a terminal is told how far it came.
 """
 import collections
+import contextlib
 import hashlib
 import multiprocessing
 import os
+import re
+import subprocess
 import tempfile
 from concurrent.futures import ProcessPoolExecutor
 
+from admitted import Beside
 from bends import bend_bytes
 from devices import on_terminal
 from differs import POINTER, day
@@ -28,6 +33,8 @@ COMMANDS = ("enroll", "identity", "system", "admission", "admit")
 SYSTEMS, SHARE, BENT = 96, 4, 3
 # Where the parts of a file of roots, and of a system from its end, begin.
 ROOTS, PROPOSER, LEVELS = 5, -34, -33
+# The roots of so many sets are written at once.
+PIECE = 256
 CONTEXT = "aB" * 32
 ENROLL, ADMIT = ["enroll", "--levels", "0"], ["admit", "--number", "0"]
 SYSTEM = ["system", "--levels", "0", "--context", CONTEXT]
@@ -39,6 +46,13 @@ TAKES = {
     "--workers takes a number from 1 to 16": [[*ENROLL, "--workers", it] for it in ("0", "17", "01")],
     "--context takes 64 hexadecimal digits": [
         [*SYSTEM[:4], it] for it in ("0" * 63, "0" * 65, "0" * 66, "g" + "0" * 63, "0" * 63 + "\n", "\u0661" * 64)],
+    "--system stands beside --admission alone": [
+        ["audit", "--system", "0" * 64], ["show", "--system=0", "a"], ["receipt", "--system", "x", "--run", "0" * 64, "--general", "0"]],
+    "--run and --admission do not stand together": [
+        ["audit", "--admission", "a", "--run", "0" * 64, "b"], ["evidence", "--run=" + "0" * 64, "--admission=-", "--system", "x"],
+        ["accuse", "--receipts", "--general", "0", "--run", "0" * 64, "--admission", "a"]],
+    "--system takes 64 hexadecimal digits": [
+        ["audit", "--admission", "a", f"--system={it}", "b"] for it in ("", "0" * 63, "0" * 65, "g" + "0" * 63, "0" * 63 + "\n")],
     "--number takes the number of a run": [
         *(["admit", f"--number={it}"] for it in ("4294967296", "00", "01", "+1", "x", "1.0", "9" * 30, "0x1", "1_0", "\u0661")),
         ["admission", "--number", "4294967296", "-", "16=-"]],
@@ -46,23 +60,37 @@ TAKES = {
 # Words that ask for nothing, of which the line is not fixed, and words that ask for help.
 NOTHING = [["enroll"], ["enroll", "--levels"], [*ENROLL, "--levels", "1"], [*ENROLL, "a", "b"], [*ENROLL, "--print-id"],
            [*ENROLL, "--tall=1"], [*ENROLL, "--tall", "--tall"], [*ENROLL, "--json"], ["identity", "a", "b"],
+           [*ENROLL, "--resume"], [*ENROLL, "--resume", "-"], [*ENROLL, "--resume", "-", "-"], ["identity", "--resume", "a"],
            ["identity", "--tall"], ["identity", "--levels", "1"], SYSTEM[:3], ["system", *SYSTEM[3:]]]
 NOTHING += [[*SYSTEM, "--workers", "1"], [*SYSTEM, "--turns=1"], [*SYSTEM, "--slot", "0"], ["admission"], ["admission", "a"],
             ["admission", "--number", "0"], ["admit"], ["admit", "a"], [*ADMIT, "a", "b"], [*ADMIT, "--json"],
             [*ADMIT, "--number", "0"], ["header", "--number", "0"], ["Enroll"], ["admit", "-x"]]
 BAD_FILES = [["b"], ["16=b"], ["x=b"], ["=b"], ["01=b"], ["-1=b"], ["0=b", "1"]]
 NOTHING += [["admission", "--number", "0", "a", *words] for words in BAD_FILES]
+NOTHING += [["receipts", "--run", "0", "--admission", "a", "--system", "0"], ["accuse", "--general", "16", "--admission", "a", "--system", "0"]]
 NOTHING += [["enroll", "--levels="], ["enroll", "--levels", ""], [*SYSTEM[:4], ""], ["admit", "--number="]]
 NOTHING += [["admission", "--number", "0", "-", "0=-"], ["admission", "--number", "0", "a", "0=-", "1=-"]]
+NOTHING += [[it, "--admission"] for it in ("audit", "draw", "evidence", "show", "receipts")]
+NOTHING += [["show", "--admission", "-"], ["show", "--admission=-", "-"], ["audit", "--admission", "-x", "a"], ["judge", "--admission", "a"]]
+NOTHING += [["show", "--admission", "a", "--admission", "a", "b"], ["admit", "--number", "0", "--system", "0" * 64], ["plan", "--admission", "a"]]
 HELPS = [["--help"], ["enroll", "--levels", "21", "-h"], *(["help", it] for it in COMMANDS), *([it, "--help"] for it in COMMANDS)]
 # The faults that have to come.
-FAULTS = ["G1", "G2", "A8", "A9", "A10", "P1", "P2", "P3", "P4 H2", "P6", "P10", "P11", "P12", *(f"I{it}" for it in range(1, 5))]
+FAULTS = ["G1", "G2", "A8", "A9", "A10", "P1", "P2", "P3", "P4 H2", "P6", "P10", "P11", "P12", *(f"I{it}" for it in range(1, 6))]
 FAULTS += [*(f"U{it}" for it in (1, 2, 4, 5, 6, 7, 8)), "U3 H6", "U3 H10", *(f"A{it}" for it in (1, 2, 4, 5, 6, 7))]
-FAULTS += [*(f"A3 U{it}" for it in (2, 4, 5, 6, 7)), "A3 U3 H6"]
+FAULTS += [*(f"A3 U{it}" for it in (2, 4, 5, 6, 7)), "A3 U3 H6", "A11", "R1"]
+# The commands that take an admission, each of which has to come with an input of its set.
+BESIDE = ("audit", "draw", "accuse", "evidence", "show", "receipt", "receipts")
 
 
 def digest(text):
     return hashlib.sha256(text).digest()
+
+
+def seed_of(secret, number):
+    """The seed of a set of a secret."""
+    for _ in range(number):
+        secret = digest(b"\x41" + secret)
+    return digest(b"\x40" + secret)
 
 
 def with_bytes(data, place, new):
@@ -175,6 +203,12 @@ class Case:
         for number in range(at * self.system.runs_of_set, (at + 1) * self.system.runs_of_set):
             self.admit(number)
 
+        Beside(self, seed_of).go()
+
+    def system_id(self):
+        """The id of the system, in digits."""
+        return digest(b"\x44" + self.system.bytes).hex()
+
     def enroll(self, node):
         """The file of roots of a node, and its identity. One root is that of the seed of its set."""
         system, draws = self.system, self.draws
@@ -183,9 +217,7 @@ class Case:
         workers = option(draws, "workers", 1 + draws.below(16)) if draws.below(2) else []
         system.roots.append(self.over([*words, *workers], secret).wrote)
         at = draws.below(1 << system.levels)
-        for _ in range(at):
-            secret = digest(b"\x41" + secret)
-        made = self.only(["root", *system.tall()], digest(b"\x40" + secret))
+        made = self.only(["root", *system.tall()], seed_of(secret, at))
         self.hold(f"the root of set {at}", None if made == system.root(node, at).hex().encode() + b"\n" else f"{made}")
         system.tops.append(bytes.fromhex(self.over(["identity"], system.roots[node]).wrote.decode()))
 
@@ -202,7 +234,7 @@ class Case:
 
     def wrong_id(self, words, end):
         """None where the id of the system was printed if and only if that was asked for."""
-        wanted = digest(b"\x44" + self.system.bytes).hex().encode() + b"\n" if "--print-id" in words else b""
+        wanted = self.system_id().encode() + b"\n" if "--print-id" in words else b""
         return None if end.said == wanted else f"{end.said}, not {wanted}"
 
     def words_of_admission(self, number, files, named=None):
@@ -241,9 +273,29 @@ class Case:
 
     def fail(self):
         """Each fault of each input, and inputs that are bent."""
-        for part in (self.bad_secrets, self.bad_roots, self.bad_texts, self.bad_systems, self.bad_files, self.bad_admissions,
+        for part in (self.resume, self.bad_secrets, self.bad_roots, self.bad_texts, self.bad_systems, self.bad_files, self.bad_admissions,
                      self.bent, self.not_there):
             part()
+
+    def resume(self):
+        """What is missing behind a front of a file of roots, and fronts that are of no such file. Roots before the last whole one
+        are not looked at."""
+        system, draws = self.system, self.draws
+        whole, secret = system.roots[0], system.secrets[0]
+        words = ["enroll", *option(draws, "levels", system.levels), *system.tall(), "--resume"]
+        for count in {0, 4, ROOTS, ROOTS + 31, ROOTS + 32, len(whole) - 1, len(whole), *(draws.below(len(whole)) for _ in range(BENT))}:
+            end = self.over([*words, self.file(whole[:count])], secret)
+            self.hold(f"the roots behind {count} bytes", None if end.wrote == whole[count:] else f"{end.wrote}")
+        last = ROOTS + 32 * ((len(whole) - ROOTS) // 32 - 1)
+        count = ROOTS + 16 + draws.below(len(whole) - ROOTS - 15)
+        bad = [system.roots[1][:count], whole + b"\0", whole + whole, b"SMI3" + whole[4:count], with_bytes(whole, 4, b"\x15")[:count],
+               with_bytes(whole, last, bytes([whole[last] ^ 1])), with_bytes(whole, -1, bytes([whole[-1] ^ 1])), b"S\0"]
+        for front in bad:
+            self.asked([*words, self.file(front), self.file(secret)], b"", "I5")
+        self.over([*words, self.file(bad[0])], secret[:31], "G1")
+        self.over([*words, self.file(bend_bytes(draws, whole[:count]))], secret)
+        if last > ROOTS:
+            self.asked([*words, "-", self.file(secret)], with_bytes(whole, ROOTS, bytes([whole[ROOTS] ^ 1])))
 
     def bad_secrets(self):
         secret = self.system.secrets[0]
@@ -350,6 +402,8 @@ class Case:
         missing = self.draws.one_of([os.path.join(self.folder, "nothing"), self.folder])
         for words in (["enroll", "--levels", "3"], ["identity"], self.words_of_system, ["admit", "--number", "0"]):
             self.asked([*words, missing])
+        self.asked(["enroll", "--levels", "0", "--resume", missing], bytes(31))
+        self.asked(["enroll", "--levels", "0", "--resume", os.path.join(self.folder, "neither"), missing])
         files = list(self.files_of_roots)
         files[self.draws.below(len(files))] = missing
         self.asked(self.words_of_admission(self.system.run, files))
@@ -380,8 +434,8 @@ def try_all_systems(program, tally, systems=SYSTEMS):
             tally.hold("the way of a system", "; ".join(wrong[:2]) or None)
             counts.update(some)
     tally.count(counts.pop("runs"))
-    missing = [it for it in FAULTS if not counts[it]]
-    tally.hold("each fault", f"never {missing}" if missing else None)
+    missing = [it for it in [*FAULTS, *(f"{it} beside an admission" for it in BESIDE)] if not counts[it]]
+    tally.hold("each fault and command", f"never {missing}" if missing else None)
     held = counts.pop("held")
     tally.note(f"seed {day()}: {held} comparisons; faults: " + ", ".join(f"{counts[it]} {it}" for it in sorted(counts)))
 
@@ -416,9 +470,73 @@ def try_terminals(program, tally):
     tally.count(5)
 
 
+def try_stopped(program, tally):
+    """An enroll that is killed leaves whole pieces, behind which another one goes on, by any number of workers."""
+    words, secret = ["enroll", "--levels", "11"], digest(b"stopped")
+    whole = run(program, [*words, "--workers", "4"], secret).wrote
+    tally.hold("the length of 2,048 roots", None if len(whole) == ROOTS + 32 * 2048 else f"{len(whole)}")
+    with tempfile.TemporaryDirectory() as folder:
+        kept, path = os.path.join(folder, "secret"), os.path.join(folder, "roots")
+        for name, data in ((kept, secret), (path, b"")):
+            with open(name, "wb") as file:
+                file.write(data)
+        for pieces in (2, 3):
+            front = killed(program, [*words, "--resume", path, kept], pieces * 32 * PIECE)
+            with open(path, "ab") as file:
+                file.write(front)
+            size = os.path.getsize(path)
+            is_well = size < len(whole) and size % (32 * PIECE) == ROOTS and whole[size - len(front) : size] == front
+            tally.hold(f"a killed enroll, {pieces} pieces", None if is_well else f"{size} bytes")
+        end = run(program, [*words, "--workers", "3", "--resume", path, kept])
+        tally.hold("the roots behind those of killed ones", differs(end, End(0, whole[size:], b"")))
+    tally.count(4)
+
+
+def killed(program, words, count):
+    """What a run wrote that was killed once it had written so many bytes."""
+    with subprocess.Popen([program, *words], stdout=subprocess.PIPE, stdin=subprocess.DEVNULL) as started:
+        front = started.stdout.read(count)
+        started.kill()
+        return front + started.stdout.read()
+
+
+def try_progress(program, tally):
+    """A terminal at standard error is told how many sets are made, and nothing else is, and of one piece nothing."""
+    secret = digest(b"told")
+    for levels, resumed, wanted in ((8, 0, []), (10, 0, [256, 512, 768, 1024]), (9, ROOTS + 32 * 200, [456, 512]), (9, ROOTS + 32 * 300, [])):
+        words = ["enroll", "--levels", str(levels), "--workers", "4"]
+        whole = run(program, words, secret)
+        with tempfile.NamedTemporaryFile() as file:
+            file.write(whole.wrote[:resumed])
+            file.flush()
+            end, told = told_on_terminal(program, [*words, "--resume", file.name], secret)
+        counts = [int(it) for it in re.findall(rb"\r(\d+) of %d sets" % (1 << levels), told)]
+        is_well = (end.status, end.wrote, whole.said) == (0, whole.wrote[resumed:], b"") and counts == wanted
+        tally.hold(f"{spell(words)}, told on a terminal", None if is_well and told.endswith(b"\r\n") == bool(wanted) else f"{told}")
+    tally.count(8)
+
+
+def told_on_terminal(program, words, given):
+    """A run whose standard error is a terminal: how it ended, and what the terminal shows."""
+    ours, its = os.openpty()
+    try:
+        try:
+            end = run(program, words, given, stderr=its)
+        finally:
+            os.close(its)
+        told = b""
+        # Once nobody has the terminal open, what was written can be read, and then an error comes.
+        with contextlib.suppress(OSError):
+            while more := os.read(ours, 1 << 16):
+                told += more
+        return end, told
+    finally:
+        os.close(ours)
+
+
 def trials(program, tally):
     if not {*COMMANDS} <= tally.commands:
         return
-    try_words(program, tally)
-    try_terminals(program, tally)
+    for trial in (try_words, try_terminals, try_stopped, try_progress):
+        trial(program, tally)
     try_all_systems(program, tally)

@@ -6,28 +6,35 @@ a RECV say which bytes it has. So each node is driven alone, with the frames tha
 ones, and those with the most that nodes send, hear and hand on: 16 rounds, 15 neighbours, frames of 15 chains, chains of 15
 signers that count and of 16 that can't, and 64 logs. Two nodes hand frames to each other. Roots of seeds are those of the
 reference. What a node refuses is told by its number, the first of several. The calls are made by ctypes, in a thread with
-little stack.
+little stack. Which run of a system is next is asked at drawn times beside the reference.
 """
 import collections
 import ctypes
 import hashlib
 import os
+import random
 import struct
 import tempfile
 
 from layout import MARK, Bundle
-from nodes import BAD, DONE, NO_ORDER, SHORT, Library, with_little_stack
+from nodes import BAD, DONE, NO, NO_ORDER, SHORT, Library, with_little_stack
 from processes import seed_of, try_with_library
 from programs import End, differs, fault, run
 from reference import root_digits
 from scenarios import chain, everybody, scenario
 from model.chain import Chain
+from model.clock import MOST_RUNS, TIMES, Timetable
 from model.keys import height_of, signature_length
 from model.log import Recv, Send, Sign, read_log
 from model.receipt import receipt_of_log
 
 # The numbers of faults in sm_node.h: there is no node, and those of frames and of bundles behind F0 and B0.
 NO_GENERAL, OTHER_ROOT, F0, B0 = 13, 14, 20, 40
+# The numbers of calls that were not made, and of a record of another system. In place of a run there is none.
+MISUSE, OTHER = 2, 7
+NO_RUN = 2**32 - 1
+# How many times of a clock are drawn.
+DRAWN = 20_000
 # The seeds of two nodes that are of no scenario.
 SEEDS = bytes([1]) * 32, bytes([2]) * 32
 # Seeds that begin with 0, and others; the words by which the program makes their roots, by the version.
@@ -130,12 +137,12 @@ def text_of(library, name, *words, ends=()):
     return room.raw
 
 
-def bundle_of(library, header, faulty, exhibits):
+def bundle_of(library, header, faulty, exhibits, parted=0):
     """The bundle that the library makes of logs; or the number of the fault, if it makes none."""
     told, whole = ctypes.c_uint32(77), b"".join(log for _, log in exhibits)
     sizes = b"".join(general.to_bytes(8, "little") + len(log).to_bytes(8, "little") for general, log in exhibits)
     lengths = [ctypes.c_size_t(it) for it in (len(header), len(exhibits), len(whole))]
-    words = header, lengths[0], faulty, 0, sizes, lengths[1], whole, lengths[2]
+    words = header, lengths[0], faulty, parted, sizes, lengths[1], whole, lengths[2]
     pair = (ctypes.c_uint32 * 2)()
     try:
         return text_of(library, "sm_node_bundle", *words, ends=[ctypes.byref(told), ctypes.byref(pair)])
@@ -456,6 +463,78 @@ def try_bundles(program, library):
 
 # ---- all of it
 
+def state_call(library, name, *words):
+    """The number of a call on a record."""
+    return library.call(f"sm_node_state{name}", *words)
+
+
+def try_states(_, library):
+    """Records of the states of secrets: those of sets that follow one another, and of later sets, are made by hashes here."""
+    system, other, number = bytes(range(1, 33)), bytes(range(32)), ctypes.c_uint32(77)
+    for secret in ANY_SEEDS:
+        state, record, seed = secret, ctypes.create_string_buffer(68), ctypes.create_string_buffer(b"s" * 32, 32)
+        same("the record of set 0", state_call(library, "", secret, system, record), DONE)
+        for at in (*range(5), 9, 300, 301):
+            first = int.from_bytes(record.raw[:4], "big")
+            same(f"advance to set {at}", state_call(library, "_advance", record, at), DONE)
+            for _ in range(at - first):
+                state = hashlib.sha256(b"\x41" + state).digest()
+            wanted = at.to_bytes(4, "big") + state + system
+            same(f"the record of set {at}", record.raw, wanted)
+            same("its number", (state_call(library, "_set", record, ctypes.byref(number)), number.value), (DONE, at))
+            made = hashlib.sha256(b"\x40" + state).digest()
+            same(f"the seed of set {at}", (state_call(library, "_seed", record, system, seed), seed.raw), (DONE, made))
+            ends = [state_call(library, "_seed", record, it, seed) for it in (other, system[:31] + b"\0", b"\0" + system[1:])]
+            same("another system", (ends, seed.raw, record.raw), ([OTHER] * 3, made, wanted))
+            for earlier in range(max(0, at - 2), at):
+                same(f"back to set {earlier}", (state_call(library, "_advance", record, earlier), record.raw), (MISUSE, wanted))
+    last = bytes([255]) * 4 + ANY_SEEDS[0] + system
+    record = ctypes.create_string_buffer(last, 68)
+    same("the last record", [state_call(library, "_advance", record, it) for it in (2**32 - 1, 0)], [DONE, MISUSE])
+    same("its bytes", record.raw, last)
+    same("its number", (state_call(library, "_set", record, ctypes.byref(number)), number.value), (DONE, 2**32 - 1))
+
+
+def next_run(library, now, start, period, mark):
+    """The number of the call, the run that is told, and when it begins."""
+    run, begins = ctypes.c_uint32(77), ctypes.c_int64(77)
+    times = ctypes.c_int64(now), ctypes.c_int64(start), ctypes.c_uint64(period)
+    status = library.call("sm_node_next_run", *times, mark, ctypes.byref(run), ctypes.byref(begins))
+    return status, run.value, begins.value
+
+
+def clock_of(draw):
+    """A time, a timetable and a mark or none, of which many stand close to where the answer changes."""
+    small = [0, 1, 2, 7, 1000]
+    start = draw.choice([-TIMES, TIMES - 1, 0, draw.randrange(-TIMES, TIMES), draw.randrange(-(10**13), 10**13)])
+    most = (TIMES - 1 - start) // (MOST_RUNS - 1)
+    period = max(0, draw.choice([*small, most + draw.randrange(-2, 3), draw.getrandbits(draw.randrange(1, 65)), 2**64 - 1]))
+    run = draw.choice([0, 1, MOST_RUNS - 1, MOST_RUNS, draw.randrange(MOST_RUNS), draw.randrange(100)])
+    near = start + run * period + draw.choice([-1, 0, 1])
+    now = draw.choice([near, near, near, draw.randrange(-TIMES, TIMES), -TIMES, TIMES - 1])
+    below = max(0, run + draw.randrange(-3, 2))
+    mark = draw.choice([None, below, below, draw.randrange(run + 1), draw.randrange(100), draw.choice([MOST_RUNS, NO_RUN - 1])])
+    return min(max(now, -TIMES), TIMES - 1), start, min(period, 2**64 - 1), mark
+
+
+def try_clock(_, library):
+    """The next run by drawn clocks is that of the reference. From then on it is the mark, and a clock that is set back gives a later
+    one."""
+    draw, ends = random.Random("clock"), collections.Counter()
+    for _ in range(DRAWN):
+        now, start, period, mark = clock_of(draw)
+        times = Timetable(start, period)
+        for _ in range(3):
+            found = times.next_run(now, mark)
+            told = next_run(library, now, start, period, NO_RUN if mark is None else mark)
+            same(f"the next run at {now} of {start}, {period}, {mark}", told, (NO, NO_RUN, 0) if found is None else (DONE, *found))
+            ends[found is None, mark is None] += 1
+            if found is None:
+                break
+            now, mark = draw.randrange(-TIMES, now + 1), found[0]
+    same("the kinds of ends that were seen", sorted(ends), [(none, first) for none in (False, True) for first in (False, True)])
+
+
 TRIALS = {
     "two in slot 2": try_pair,
     "keys for all slots": try_slots,
@@ -468,6 +547,8 @@ TRIALS = {
     "refused frames": try_frames,
     "refused nodes": try_nodes,
     "bundles of many logs": try_bundles,
+    "states of secrets": try_states,
+    "the next run by drawn clocks": try_clock,
 }
 
 

@@ -17,6 +17,7 @@ import struct
 import threading
 
 from embed import ARCHIVE as JOBS, EMBED, SANITIZERS, STACK, TOP, WARNINGS, do
+from keepers import StateKeeper, seeds_wrong
 from layout import Bundle
 from processes import ARCHIVE, FOUR, OF_C, PARTS, SIXTEEN, Way, build_programs, make_header, run_id_of, sanitized, seed_of
 from processes import try_system, try_with_library, write_seeds
@@ -109,6 +110,9 @@ def words_wrong(made, folder):
         wrong += [(2, [*made[f"general{ending}"], *traitors[0]]), (2, [*made[f"traitor{ending}"], *generals[0]])]
     bundles = [("65536",), ("0", "16"), ("0", "2"), ("x",), ("0", "1", "0")]
     wrong += [(1, [*made["bundle"], of_words, *words]) for words in bundles]
+    states = [("16", of_words, "0" * 64), ("0", of_words, "0" * 63), ("0", of_words, "0" * 65), ("0", of_words, "A" * 64)]
+    wrong += [(1, [*made["state"], "catch-up", of_words, *words]) for words in [*states, ("0", of_words, "0" * 64)]]
+    wrong += [(2, [*made["state"], "put", of_words, *states[0]]), (2, [*made["state"], "take", of_words, *states[0]])]
     wrong += [(2, made[name]) for name in PARTS]
     return "; ".join(filter(None, side_by_side(lambda of: ends_with(*of), wrong))) or None
 
@@ -654,6 +658,7 @@ def try_built(program, tally, folder):
     try_system(tally, "sixteen processes", program, made, way, runs, SIXTEEN)
     tally.hold("wrong words", words_wrong(made, folder))
     tally.hold("seeds", keygen_wrong(made, folder))
+    tally.hold("seeds of a state", seeds_wrong(StateKeeper(made), os.path.join(folder, "kept")))
     tally.hold("a pool that is too small", pool_wrong(made, folder))
     tally.hold("calls", with_little_stack(calls_wrong, program, library, False))
     tally.hold("calls, memory", with_little_stack(calls_wrong, program, library, True))

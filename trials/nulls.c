@@ -62,6 +62,35 @@ static int jobs(void) {
     return 0;
 }
 
+/* So do the calls for identities, systems and admissions. An admission and a system in options are bytes too. */
+static int systems(void) {
+    const uint8_t zeros[SM_CONTEXT_BYTES] = {0};
+    const sm_options unread = {.admission_bytes = 1}, unnamed = {.admission = zeros, .admission_bytes = 1, .system_bytes = 32};
+    const sm_options alone = {.system = zeros, .system_bytes = 32}, bad = {.admission = zeros, .admission_bytes = 4};
+    const sm_roots none = {0, NULL, 0};
+    sm_answer answer = {0};
+    WANT(sm_enroll(1, 0, NULL, 0, &answer) == SM_FAULT && is_line(&answer, "fault G1"));
+    WANT(sm_enroll(1, 0, NULL, 1, &answer) == SM_MISUSE && answer.at == NULL);
+    WANT(sm_identity(NULL, 0, &answer) == SM_FAULT && is_line(&answer, "fault I1"));
+    WANT(sm_identity(NULL, 1, &answer) == SM_MISUSE && answer.at == NULL);
+    WANT(sm_system(1, 0, 0, zeros, NULL, 0, &answer) == SM_FAULT && is_line(&answer, "fault P1 line 1"));
+    WANT(sm_system(1, 0, 0, zeros, NULL, 1, &answer) == SM_MISUSE && answer.at == NULL);
+    WANT(sm_admission(0, NULL, 0, NULL, 0, &answer) == SM_FAULT && is_line(&answer, "fault U1"));
+    WANT(sm_admission(0, NULL, 1, NULL, 0, &answer) == SM_MISUSE && answer.at == NULL);
+    WANT(sm_admission(0, NULL, 0, NULL, 1, &answer) == SM_MISUSE && answer.at == NULL);
+    WANT(sm_admission(0, NULL, 0, &none, 1, &answer) == SM_MISUSE && answer.at == NULL);
+    WANT(sm_admit(0, NULL, 0, NULL, 0, &answer) == SM_FAULT && is_line(&answer, "fault A1"));
+    WANT(sm_admit(0, NULL, 1, NULL, 0, &answer) == SM_MISUSE && answer.at == NULL);
+    WANT(sm_admit(0, NULL, 0, NULL, 32, &answer) == SM_MISUSE && answer.at == NULL);
+    WANT(sm_admit(0, NULL, 0, zeros, 31, &answer) == SM_MISUSE && answer.at == NULL);
+    WANT(sm_audit(NULL, 0, &bad, &answer) == SM_FAULT && is_line(&answer, "fault A2"));
+    WANT(sm_audit(NULL, 0, &unread, &answer) == SM_MISUSE && answer.at == NULL);
+    WANT(sm_audit(NULL, 0, &unnamed, &answer) == SM_MISUSE && answer.at == NULL);
+    WANT(sm_receipt(0, NULL, 0, &alone, &answer) == SM_MISUSE && answer.at == NULL);
+    sm_answer_free(&answer);
+    return 0;
+}
+
 /* So do the calls that write what an answer holds, which stays as it is. */
 static int answers(void) {
     sm_answer answer = {0};
@@ -121,6 +150,13 @@ static int nodes(void) {
     WANT(sm_node_bundle(NULL, 0, 0, 0, NULL, 1, NULL, 0, NULL, 0, &count, &fault, &pair) == SM_MISUSE && fault == 0);
     WANT(sm_node_bundle(NULL, 0, 0, 1, NULL, 0, NULL, 1, NULL, 0, &count, &fault, &pair) == SM_MISUSE && fault == 0);
     WANT(sm_node_bundle(NULL, 0, 0, 1, NULL, 0, NULL, 0, NULL, 1, &count, &fault, &pair) == SM_MISUSE && fault == 0);
+    uint8_t record[SM_STATE_BYTES];
+    WANT(sm_node_state(seed, id, record) == SM_OK && sm_node_state_set(record, &number) == SM_OK && number == 0);
+    WANT(sm_node_state_advance(record, 2) == SM_OK && record[3] == 2 && sm_node_state_advance(record, 1) == SM_MISUSE);
+    WANT(sm_node_state_seed(record, id, root) == SM_OK && sm_node_state_seed(record, seed, root) == SM_OTHER);
+    int64_t begins = 77;
+    WANT(sm_node_next_run(101, 0, 100, SM_NO_RUN, &number, &begins) == SM_OK && number == 2 && begins == 200);
+    WANT(sm_node_next_run(101, 0, 100, 4194303, &number, &begins) == SM_NO && number == SM_NO_RUN && begins == 0);
     WANT(sm_node_header_numbers(NULL, 0, &told, &fault) == SM_FAULT && fault == SM_H9 && told.orders == 2);
     WANT(sm_node_header_numbers(NULL, 1, &told, &fault) == SM_MISUSE && fault == 0 && told.orders == 2);
     WANT(sm_node_rounds(NULL, 0, &number, &fault) == SM_FAULT && fault == SM_H9 && number == 0);
@@ -152,4 +188,4 @@ static int texts(void) {
     return 0;
 }
 
-int main(void) { return jobs() || answers() || nodes() || names() || texts(); }
+int main(void) { return jobs() || systems() || answers() || nodes() || names() || texts(); }

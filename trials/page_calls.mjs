@@ -11,7 +11,7 @@ import crypto from "node:crypto";
 import fs from "node:fs";
 import { pageOf } from "./page_module.mjs";
 
-const ID_BYTES = 32, POINTER_BYTES = 8, OPTIONS_BYTES = 32, FACT_BYTES = 88, SHOWN = 60;
+const ID_BYTES = 32, POINTER_BYTES = 8, OPTIONS_BYTES = 64, FACT_BYTES = 88, SHOWN = 60;
 const { of, heldBy, joined, put } = await pageOf(process.argv[2], ["heldBy", "joined", "put"], process.argv[3]);
 const given = fs.readFileSync(0), behind = given.indexOf(10) + 1;
 const { lengths, cases } = JSON.parse(given.subarray(0, behind));
@@ -34,7 +34,7 @@ function answerOf() {
   return { words: [answer.at], read, owned: [answer.at] };
 }
 
-// Options of run ids, how strictly, the form, and whether the input is receipts.
+// Options of run ids, how strictly, the form, and whether the input is receipts. Without an admission no address is null.
 function optionsOf(runs, strict, form, receipts = 0) {
   const ids = put(of, texts[runs]), options = new DataView(new ArrayBuffer(OPTIONS_BYTES));
   options.setBigUint64(0, ids.at, true);
@@ -42,6 +42,7 @@ function optionsOf(runs, strict, form, receipts = 0) {
   options.setUint32(16, strict, true);
   options.setUint32(20, form, true);
   options.setUint32(24, receipts, true);
+  for (const place of [32, 48]) options.setBigUint64(place, ids.at, true);
   const { at } = put(of, new Uint8Array(options.buffer));
   return { words: [at], owned: [ids.at, at] };
 }

@@ -7,7 +7,8 @@ counts as made just before the process, as by mkdir. So its own name is one of t
 If the folder is gone, it is made anew with what it had before the process. On each disk the general is started once more, with
 another order. Either it is refused, or the first process had not said that it is ready, and had sent nothing. What both processes
 sent together has one frame for each round and neighbour. The programs that make seeds and headers are killed so too: no seed is
-replaced, none is lost when keygen has ended, and no header is half of one.
+replaced, none is lost when keygen has ended, and no header is half of one. So is the program that keeps a node's state (keepers.py);
+bindings.py does the same with the packages.
 
 The archive is that of nodes.py; without it, or without a compiler, nothing is tried, and a line says so.
 """
@@ -20,7 +21,9 @@ import time
 from typing import NamedTuple
 
 from datagrams import FRONT, free_addresses, write_places
-from embed import WARNINGS, TOP, do
+from disks import DISKS, build_killer, copied, fail_power, killed
+from embed import do
+from keepers import StateKeeper, keeper_wrong
 from processes import LATE, MOST_TRIES, System, build_programs, make_header, try_with_library
 from programs import run, side_by_side
 
@@ -28,7 +31,6 @@ from programs import run, side_by_side
 FOUR = System(4, 2, 3, {}, {})
 # The length of a round at first, in milliseconds. Where a process is late, it is made again with rounds twice as long.
 ROUND = 100
-DISKS = ["all is there", "nothing that was not waited for", "names alone"]
 LOG, NEW = "0.log", "0.log.new"
 
 
@@ -119,55 +121,6 @@ def live_in_time(made, killer, way, make_folder, order, point=None):
     return life
 
 
-def copied(base, folder):
-    """A copy of a folder, in the place of one that is there."""
-    shutil.rmtree(folder, ignore_errors=True)
-    return shutil.copytree(base, folder)
-
-
-class File:
-    """A file: how many bytes were written, and of how many the disk has waited for."""
-
-    def __init__(self):
-        self.written, self.kept = 0, 0
-
-
-def replayed(calls):
-    """The names with their files as they are seen, and as the disk has them for sure: none before it has the folder's own name."""
-    seen, kept, has_folder = {}, {}, False
-    for call, *words in calls:
-        if call == "open":
-            seen.setdefault(words[0], File()).written = 0
-        elif call == "write":
-            seen[words[0]].written += int(words[1])
-        elif call == "rename":
-            seen[words[1]] = seen.pop(words[0])
-        elif call == "unlink":
-            seen.pop(words[0], None)
-        elif call == "fsync" and words[0] == "..":
-            has_folder = True
-        elif call == "fsync" and words[0] == ".":
-            kept = dict(seen)
-        elif call == "fsync":
-            seen[words[0]].kept = seen[words[0]].written
-    return seen, kept if has_folder else {}
-
-
-def fail_power(folder, base, calls, disk):
-    """Leaves of the files of a process what is on a disk. What the base has was on the disk before."""
-    if disk == 0:
-        return
-    seen, kept = replayed(calls)
-    content = {id(it): open(os.path.join(folder, name), "rb").read() for name, it in seen.items()}
-    for name in seen:
-        os.remove(os.path.join(folder, name))
-        if os.path.exists(os.path.join(base, name)):
-            shutil.copy(os.path.join(base, name), folder)
-    for name, it in (kept if disk == 1 else seen).items():
-        with open(os.open(os.path.join(folder, name), os.O_CREAT | os.O_TRUNC | os.O_WRONLY, 0o600), "wb") as file:
-            file.write(content.get(id(it), b"")[: it.kept])
-
-
 def on_disk(folder, base, calls, disk):
     """A folder with what is on a disk behind a process in a folder. Of sockets nothing is left where power failed."""
     made = f"{folder}.{disk}"
@@ -226,15 +179,6 @@ def lives_wrong(made, killer, way, folder):
     return next(filter(None, side_by_side(point_wrong, points)), None), len(points)
 
 
-def killed(killer, words, folder, point):
-    """A program that is killed at a point: its status, and its calls."""
-    calls = os.path.join(folder, "calls")
-    given = {**os.environ, "LD_PRELOAD": killer, "CALLS_TO": calls, "DIE_AT": str(point[0]), "DIE": point[1]}
-    end = run(words[0], words[1:], env=given)
-    lines = open(calls, encoding="ascii").read().splitlines() if os.path.exists(calls) else []
-    return end.status, [line.split() for line in lines]
-
-
 def files_wrong(made, killer, folder):
     """None where keygen and header leave, wherever they are killed, what is whole or what is refused."""
     base = os.path.join(folder, "base")
@@ -255,7 +199,8 @@ def files_wrong(made, killer, folder):
 def file_wrong(made, killer, base, folder, kind, words, point, old):
     """None where a seed or a header is as it has to be behind a program that was killed, on each disk."""
     shutil.copytree(base, folder)
-    status, calls = killed(killer, [folder if it is None else it for it in words], folder, point)
+    end, calls = killed(killer, [folder if it is None else it for it in words], folder, point)
+    status = end.status
     if status not in (0, -signal.SIGKILL):
         return f"status {status}"
     for disk in range(len(DISKS)):
@@ -280,9 +225,7 @@ def file_wrong(made, killer, base, folder, kind, words, point, old):
 
 def try_built(tally, folder):
     """All trials over the archive."""
-    made, killer = build_programs(folder), os.path.join(folder, "dying.so")
-    dying = os.path.join(TOP, "trials", "dying.c")
-    do(["cc", "-std=c11", "-O2", *WARNINGS, "-fPIC", "-shared", dying, "-o", killer, "-ldl"])
+    made, killer = build_programs(folder), build_killer(folder)
     for name, way in (("sockets", Unix), ("UDP", Udp)):
         of_way = os.path.join(folder, way.program)
         os.mkdir(of_way)
@@ -292,6 +235,12 @@ def try_built(tally, folder):
     of_files = os.path.join(folder, "files")
     os.mkdir(of_files)
     tally.hold("seeds and headers", files_wrong(made, killer, of_files))
+    of_states = os.path.join(folder, "states")
+    os.mkdir(of_states)
+    keeper = StateKeeper(made)
+    wrong, runs = keeper_wrong(keeper, keeper, killer, of_states)
+    tally.hold("each point of a state", wrong)
+    tally.count(runs)
 
 
 def trials(program, tally):

@@ -20,7 +20,7 @@ ARCHIVE = os.path.join(TOP, "crates", "sm_node", "out", "libsm_node.a")
 NODES = os.path.join(EMBED, "nodes")
 OF_C = ["cc", "-std=c11", "-O2", "-D_DEFAULT_SOURCE", *WARNINGS, "-I", EMBED]
 # The programs of embed/nodes, and the files that each is made of.
-PARTS = {name: [name] for name in ("keygen", "header", "bundle")}
+PARTS = {name: [name] for name in ("keygen", "state", "header", "bundle")}
 PARTS |= {name: ["rounds", name, "sockets"] for name in ("general", "traitor")}
 PARTS |= {f"{name}_udp": ["rounds", name, "datagrams"] for name in ("general", "traitor")}
 OF_RUNS = [name for name in PARTS if "rounds" in PARTS[name]]

@@ -3,8 +3,10 @@
 A repository is made of these sources, with the built program and libraries in out/ as ./test leaves them. Of it two clones are
 made, in which ./dist runs with other masks, time zones and languages: the archives and the packages are the same, byte for byte.
 One is unpacked and installed. The installed program judges examples in an empty environment, programs are built by CMake and
-pkg-config, pages and completions are looked at, and nothing is left behind when it is taken away. What is not proved, changed or
-not committed makes no archive. Without git, a compiler or the two libraries nothing is tried, and a line says so.
+pkg-config, pages and completions are looked at, and nothing is left behind when it is taken away. Where cargo builds the program
+vamuretu, it is among them, with its page and its units, and the way of docs/SYSTEM.md to a system that goes on is gone from the
+package alone. What is not proved, changed or not committed makes no archive. Without git, a compiler or the two libraries nothing
+is tried, and a line says so.
 """
 import hashlib
 import os
@@ -14,11 +16,16 @@ import subprocess
 import sys
 import tempfile
 
+from cargo_built import build_program
+from going_on import follow
 from programs import commands_of, run, spell
 
 TOP = os.path.dirname(os.path.dirname(os.path.abspath(__file__)))
 sys.path.insert(0, os.path.join(TOP, "tools"))
 import completions  # noqa: E402
+import dist  # noqa: E402
+import man_vamuretu  # noqa: E402
+import node_program  # noqa: E402
 import proved  # noqa: E402
 from man3 import pages  # noqa: E402
 from version import UNRELEASED, short, version  # noqa: E402
@@ -26,6 +33,8 @@ from version import UNRELEASED, short, version  # noqa: E402
 CRATES = {"sm_tool": "sm_tool", "sm_tool-v3": "sm_tool", "libsm_embed.a": "sm_embed", "libsm_node.a": "sm_node"}
 CRATES |= {"libsm_embed-v3.a": "sm_embed", "libsm_node-v3.a": "sm_node"}
 GATE = "1 passed, 0 failed"
+# The most that `systemd-analyze security` may find in a unit, of 100.
+EXPOSURE = 20
 SECONDS = "1795758936"
 GIT = {"GIT_AUTHOR_NAME": "a", "GIT_AUTHOR_EMAIL": "a@a", "GIT_COMMITTER_NAME": "a", "GIT_COMMITTER_EMAIL": "a@a"}
 GIT |= {"GIT_AUTHOR_DATE": f"{SECONDS} +0000", "GIT_COMMITTER_DATE": f"{SECONDS} +0000"}
@@ -86,14 +95,18 @@ def write(path, data):
         file.write(data)
 
 
-def built_files(program):
-    """The built files by their names, or None. What is for any processor stands for what is for those with AVX2 too."""
+def built_files(program, tally):
+    """The built files by their names, or None. What is for any processor stands for what is for those with AVX2 too. The program
+    vamuretu is among them where it can be built here."""
     found = {"sm_tool": program, "sm_tool-v3": program}
     for name, crate in list(CRATES.items())[2:]:
         plain = name.replace("-v3", "")
         places = [os.path.join(TOP, "crates", crate, "out", plain), os.path.join(TOP, "out", plain)]
         found[name] = next(filter(os.path.exists, places), None)
-    return found if all(found.values()) else None
+    if not all(found.values()):
+        return None
+    nodes = build_program(tally)
+    return found | ({"vamuretu": nodes} if nodes else {})
 
 
 def make_repository(place, built):
@@ -115,7 +128,10 @@ def clone(place, top, name, built):
     for it, path in built.items():
         kept = os.path.join(made, "out", it)
         shutil.copy(path, kept)
-        write(f"{kept}.proved", record(made, kept, CRATES[it]).encode())
+        if it in CRATES:
+            write(f"{kept}.proved", record(made, kept, CRATES[it]).encode())
+        else:
+            write(f"{kept}.made", node_program.record(made, kept).encode())
     return made
 
 
@@ -171,6 +187,27 @@ def try_refused(top, tally):
     tally.hold("a source that is not committed", refused(top, b"crates/sm_embed/src/lib.rt"))
     do(["git", "-C", top, "commit", "-q", "-a", "-m", "another"])
     tally.hold("other sources than were proved", refused(top, b"out/libsm_embed.a was proved from other sources"))
+
+
+def try_refused_nodes(top, tally):
+    """A program vamuretu of which no archive is made, and an archive without it."""
+    nodes, source = os.path.join(top, "out", "vamuretu"), os.path.join(top, "vamuretu", "src", "main.rs")
+    whole, made, text = read(nodes), read(f"{nodes}.made"), read(source)
+    write(nodes, whole + b" ")
+    tally.hold("another vamuretu than was built", refused(top, b"out/vamuretu is not the file that was built"))
+    write(nodes, whole)
+    write(f"{nodes}.made", made.replace(b"sm_node ", b"sm_node 0"))
+    tally.hold("vamuretu over another library", refused(top, b"out/vamuretu was built over another libsm_node.a"))
+    write(f"{nodes}.made", made)
+    write(source, text + b"\n")
+    do(["git", "-C", top, "commit", "-q", "-a", "-m", "another vamuretu"])
+    tally.hold("other sources of vamuretu", refused(top, b"out/vamuretu was built from other sources"))
+    os.remove(nodes)
+    with tempfile.TemporaryDirectory() as place:
+        do(["./dist", "--tree", f"{place}/tree"], cwd=top)
+        has = [it for it in all_files(f"{place}/tree") if it.endswith((".service", "bin/vamuretu", "vamuretu.1"))]
+        says = f"\n{dist.NODES} is not here: it was not made\n".encode() in read(place, "tree", "PROVED")
+    tally.hold("an archive without vamuretu", None if not has and says else f"it has {has}, and PROVED says it: {says}")
 
 
 def with_changes(top, heading):
@@ -370,6 +407,61 @@ def try_words(program, prefix, tally):
         tally.hold("fish completes", None if end.wrote.startswith(b"accuse") else f"{end}")
 
 
+def try_nodes(prefix, tally):
+    """The installed program vamuretu: its version, its page, what is completed, and its units."""
+    program = os.path.join(prefix, dist.NODES)
+    end = run(program, ["--version"], env={}, cwd="/")
+    tally.hold("vamuretu from anywhere", None if end.wrote == f"vamuretu {version()}\n".encode() else f"{end}")
+    page = read(prefix, "share", "man", "man1", dist.OF_NODES).decode()
+    tally.hold("its page", None if page == man_vamuretu.page_of(program) else "tools/man_vamuretu.py makes another")
+    names = {it.words[-1] for it in man_vamuretu.command_of(program).commands}
+    tally.hold("its commands", None if names == commands_of(program) - {"help"} else f"{names}")
+    if shutil.which("bash"):
+        words = 'COMP_WORDS=(vamuretu ""); COMP_CWORD=1; _vamuretu; echo "${COMPREPLY[*]}"'
+        end = run("bash", ["-c", f'. "{prefix}/{man_vamuretu.BASH}"; {words}'])
+        tally.hold("bash, vamuretu", None if {*end.wrote.decode().split()} == names | {"--help", "--version"} else f"{end}")
+    for shell, file in (("zsh", man_vamuretu.ZSH), ("fish", man_vamuretu.FISH)):
+        if shutil.which(shell):
+            end = run(shell, ["-n", os.path.join(prefix, file)])
+            tally.hold(f"{shell}, vamuretu", None if end.status == 0 else f"{end}")
+
+
+def try_units(root, place, tally):
+    """The units below a root, and the users, by systemd's own tools, with the program that is there."""
+    if not shutil.which("systemd-analyze"):
+        tally.note("left out: systemd-analyze is not there")
+        return
+    folder, own = os.path.join(root, "usr", dist.UNITS), os.path.join(place, "units")
+    os.mkdir(own)
+    for name in sorted(os.listdir(folder)):
+        unit, program = os.path.join(own, name), os.path.join(root, "usr", dist.NODES)
+        write(unit, read(folder, name).replace(b"ExecStart=vamuretu", f'ExecStart="{program}"'.encode()))
+        end = run("systemd-analyze", ["verify", "--man=no", unit])
+        said = [line for line in end.said.decode().splitlines() if "vamuretu" in line]
+        tally.hold(f"systemd-analyze verify {name}", f"{said}" if said else None)
+        end = run("systemd-analyze", ["security", "--offline=true", "--no-pager", f"--threshold={EXPOSURE}", unit])
+        tally.hold(f"systemd-analyze security {name}", None if end.status == 0 else f"{end.wrote.decode().splitlines()[-1:]} {end.said}")
+    if shutil.which("systemd-sysusers"):
+        os.makedirs(os.path.join(root, "etc"), exist_ok=True)
+        end = run("systemd-sysusers", [f"--root={root}", os.path.join(root, "usr", dist.USERS, "vamuretu.conf")])
+        users = [line.split(":")[0] for line in read(root, "etc", "passwd").decode().splitlines()] if end.status == 0 else end
+        tally.hold("its users", None if {"vamuretu", "vamuretu-watch"} <= {*users} else f"{users}")
+
+
+def try_package(top, place, tally):
+    """The package for Debian: what dpkg reads of it, and a system that goes on, from its files alone."""
+    name = next(it for it in digests(os.path.join(top, "out")) if it.endswith(".deb"))
+    package, root = os.path.join(top, "out", name), os.path.join(place, "of_a_package")
+    do(["dpkg-deb", "-x", package, root])
+    do(["dpkg-deb", "-e", package, os.path.join(place, "control")])
+    fields = do(["dpkg-deb", "-f", package, "Depends"]).decode()
+    tally.hold("what it depends on", None if "libc6 (>= 2." in fields and "libsqlite3-0" in fields else fields)
+    scripts = [it for it in ("postinst", "prerm", "postrm") if run("sh", ["-n", os.path.join(place, "control", it)]).status]
+    tally.hold("its scripts", f"sh does not read {scripts}" if scripts else None)
+    try_units(root, place, tally)
+    follow(tally, os.path.join(root, "usr", "bin"), os.path.join(root, "usr", "share", "doc", "vamuretu"))
+
+
 def try_installed(tree, place, tally):
     """What install.sh puts below a prefix, and takes away."""
     prefix = os.path.join(place, "a prefix")
@@ -381,6 +473,8 @@ def try_installed(tree, place, tally):
     open_to_all = [it for it in all_files(prefix) if not os.stat(os.path.join(prefix, it)).st_mode & 0o004]
     tally.hold("all may read it", f"not {open_to_all[:3]}" if open_to_all else None)
     try_words(program, prefix, tally)
+    if os.path.exists(os.path.join(prefix, dist.NODES)):
+        try_nodes(prefix, tally)
     try_uses(prefix, place, tally)
     try_both(prefix, place, tally)
     try_actuator(prefix, place, tally)
@@ -405,8 +499,8 @@ def try_checkout(top, place, tally):
 
 
 def trials(program, tally):
-    built = built_files(program)
-    lacking = [tool for tool in ("git", "cc", "ar", "tar", "sha256sum") if not shutil.which(tool)]
+    built = built_files(program, tally)
+    lacking = [tool for tool in ("git", "cc", "ar", "tar", "sha256sum", "readelf") if not shutil.which(tool)]
     if not built or lacking:
         tally.note(f"left out: {' '.join(lacking) or 'a library for C'} is not there")
         return
@@ -418,7 +512,11 @@ def trials(program, tally):
         try_damaged(tree, place, tally)
         try_installed(tree, place, tally)
         try_checkout(second, place, tally)
-        try_names(second, tally)
-        try_refused(first, tally)
         if not shutil.which("dpkg-deb"):
             tally.note("left out: the package for Debian, since dpkg-deb is not there")
+        elif "vamuretu" in built:
+            try_package(first, place, tally)
+        try_names(second, tally)
+        if "vamuretu" in built:
+            try_refused_nodes(second, tally)
+        try_refused(first, tally)

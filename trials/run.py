@@ -17,9 +17,11 @@ from programs import Hangs, commands_of
 from tally import Tally
 
 SUBJECTS = ["scripts", "worked", "walk", "campaigns", "pictures", "prefixes", "vectors", "second_answers", "identities", "differs"]
-SUBJECTS += ["json_texts", "costs", "refusals", "slips", "calls", "devices", "load", "archive", "worlds", "embed", "nodes"]
-SUBJECTS += ["node_calls", "receipts", "datagrams", "shown", "power", "system", "bindings", "page", "release"]
-LIBRARIES = ["worlds", "embed", "nodes", "node_calls", "receipts", "datagrams", "shown", "power", "system", "bindings", "page", "release"]
+SUBJECTS += ["json_texts", "costs", "refusals", "slips", "calls", "devices", "load", "engines", "worlds", "embed", "nodes"]
+SUBJECTS += ["node_calls", "system_calls", "receipts", "datagrams", "shown", "power", "system", "complete", "bindings", "watching"]
+SUBJECTS += ["archives", "controllers", "soaking", "page", "release"]
+LIBRARIES = ["worlds", "embed", "nodes", "node_calls", "system_calls", "receipts", "datagrams", "shown", "power", "system", "complete"]
+LIBRARIES += ["bindings", "watching", "archives", "controllers", "soaking", "page", "release"]
 # So many of the slowest subjects are named.
 SLOWEST = 5
 # What no subject takes, in seconds, however busy the machine is: trials that take longer hang.

@@ -1,7 +1,6 @@
 """What docs/EMBED.md and docs/NODES.md show.
 
-The function in C of EMBED compiles and prints verdicts. What NODES shows of agree.c stands there, which nodes.py builds and runs.
-The run of two nodes over UDP of NODES goes as it stands.
+The function in C of EMBED compiles and prints verdicts. The run of two nodes over UDP of NODES goes as it stands.
 
 Each of the two nodes has a folder as its machine, and the addresses are free ones of this machine. Before the run a node is told
 a moment that has passed: it ends as one that is late, and leaves no log, so it can be started again.
@@ -74,17 +73,9 @@ def function_wrong(program, folder):
         if (end.status, end.wrote) != (wanted.status, said + b"\n" + wanted.wrote + b"\n"):
             return f"{name}: {end}, not {wanted}"
         end = run(made, ["0" * 64], bundle)
-        if (end.status, end.wrote) != (7, b"the input is of another run\nfault R1\n"):
+        if (end.status, end.wrote) != (7, b"the input is of another run or system\nfault R1\n"):
             return f"{name} of another run: {end}"
     return None
-
-
-def quote_wrong():
-    """None where agree.c has each function that NODES shows of it."""
-    with open(os.path.join(EMBED, "agree.c"), encoding="utf-8") as file:
-        source = file.read()
-    lacking = [piece for piece in block_of("static void play").split("\n\n") if piece not in source]
-    return f"agree.c lacks {lacking}" if lacking else None
 
 
 def machines(folder):
@@ -173,7 +164,6 @@ def trials(program, tally):
         try:
             tally.hold("a function in C", function_wrong(program, folder))
             tally.count(4)
-            tally.hold("what is shown of agree.c", quote_wrong())
             try_run(program, tally, folder)
         except IsNotBuilt as told:
             tally.fail(str(told))

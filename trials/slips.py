@@ -47,13 +47,13 @@ def of_systems(program, folder):
     roots = [run(program, enroll, secret).wrote for secret in secrets]
     tops = [b"root " + run(program, ["identity"], it).wrote for it in roots]
     text = header_text().partition(b"\nroot ")[0] + b"\n" + b"".join(tops) + b"end\n"
-    paths = [os.path.join(folder, f"{node}.roots") for node in (0, 1)]
-    for path, data in zip(paths, roots):
+    paths, front = [os.path.join(folder, f"{node}.roots") for node in (0, 1)], os.path.join(folder, "front")
+    for path, data in zip([*paths, front], [*roots, roots[0][:3]]):
         with open(path, "wb") as kept:
             kept.write(data)
     admission = ["admission", "--number", "1", "-", *(f"{node}={path}" for node, path in enumerate(paths))]
     made = run(program, system, text).wrote
-    told = [(enroll, secrets[0]), (["identity"], roots[0]), (system, text), ([*system, "--print-id"], text), (admission, made)]
+    told = [(enroll, secrets[0]), ([*enroll, "--resume", front], secrets[0]), (["identity"], roots[0]), (system, text), ([*system, "--print-id"], text), (admission, made)]
     return [*told, (["admit", "--number", "1", "--print-id"], run(program, admission, made).wrote)]
 
 

@@ -1,5 +1,5 @@
 #!/usr/bin/env python3
-"""The way that docs/SYSTEM.md goes: each command there prints what stands there, over nodes as processes (embed/nodes/).
+"""The way that docs/SYSTEM.md goes: each command there prints what stands there, over nodes as processes (embed/nodes/) and a system that goes on.
 
     trials/system.py PROGRAM
     trials/system.py reference
@@ -7,7 +7,8 @@
 tries this alone, by a program, or with the reference (reference/sm.py) in the place of the program.
 
 The commands are run one after another by `sh` in a folder of a short name, which has a copy of embed/, the archive of nodes as
-libsm_node.a, and the program as `sm_tool`. The archive is crates/sm_node/out/libsm_node.a, which `rt lib` builds in
+libsm_node.a, and the program as `sm_tool`. Those of the system that goes on have a folder of their own, with `vamuretu` too, where
+cargo can build it. The archive is crates/sm_node/out/libsm_node.a, which `rt lib` builds in
 crates/sm_node; without it, or without a compiler, nothing is tried, and a line says so. Where a process can't keep to the clock, all
 is done again with rounds twice as long.
 """
@@ -16,6 +17,8 @@ import shutil
 import sys
 import tempfile
 
+from cargo_built import build_program
+from going_on import SECTION, follow
 from processes import ARCHIVE, MOST_TRIES
 from programs import commands_of
 from tally import Tally
@@ -48,7 +51,7 @@ def ends(program, factor):
     # A socket's address is short, so the folder has to be.
     with tempfile.TemporaryDirectory(dir="/tmp") as place:
         fill(place, program)
-        for command, wanted in shown(DOCUMENT):
+        for command, wanted in shown(DOCUMENT, without=SECTION):
             got = printed_by(command.replace(ROUND, f" {1000 * factor} "), place)
             if LATE in got:
                 return None
@@ -56,7 +59,19 @@ def ends(program, factor):
     return rows
 
 
+def go_on(program, tally):
+    """The system that goes on, from the examples of the checkout."""
+    nodes = build_program(tally) if program != "reference" else None
+    if nodes is None:
+        return
+    with tempfile.TemporaryDirectory() as folder:
+        for name, path in (("sm_tool", program), ("vamuretu", nodes)):
+            os.symlink(path, os.path.join(folder, name))
+        follow(tally, folder, os.path.abspath(TOP))
+
+
 def trials(program, tally):
+    go_on(program, tally)
     if not os.path.exists(ARCHIVE) or not shutil.which("cc"):
         tally.note("left out: cc or crates/sm_node/out/libsm_node.a is not there")
         return

@@ -20,11 +20,14 @@ DOCUMENTS = ["WALK.md", "COMMANDS.md", "IDENTITIES.md"]
 INDENT, PROMPT = "    ", "    $ "
 
 
-def shown(document):
-    """The commands that a document shows, each with what it prints."""
-    rows, is_open = [], False
+def shown(document, section=None, without=None):
+    """The commands that a document shows, each with what it prints: of a section alone, or without one."""
+    rows, is_open, heading = [], False, None
     with open(os.path.join(TOP, "docs", document), encoding="utf-8") as lines:
         for line in lines:
+            heading = line.strip("# \n") if line.startswith("## ") else heading
+            if section not in (None, heading) or heading == without is not None:
+                continue
             if line.startswith(PROMPT):
                 rows.append((line.removeprefix(PROMPT).rstrip("\n"), []))
             elif is_open and line.startswith(INDENT):

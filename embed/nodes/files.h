@@ -64,6 +64,13 @@ static inline struct bytes read_file(const char *folder, const char *name) {
     return all;
 }
 
+/* So many bytes, and not one more. */
+static inline void read_to_end(FILE *file, const char *name, uint8_t *at, size_t length) {
+    if (fread(at, 1, length, file) == length && fgetc(file) == EOF) return;
+    fprintf(stderr, "%s: not %zu bytes\n", name, length);
+    exit(1);
+}
+
 /* Waits until the names in a folder are on the disk. */
 static inline void sync_folder(const char *folder) {
     int names = open(folder, O_RDONLY | O_DIRECTORY);
@@ -94,26 +101,44 @@ static inline void make_once(const char *folder, const char *name, mode_t mode, 
     sync_folder(folder);
 }
 
-/* Puts a file into the place of one of that name. A loss of power leaves one of the two, whole. */
-static inline void replace_file(const char *folder, const char *name, struct bytes all) {
+/* Writes a file beside one of that name, and waits until it is on the disk. */
+static inline void write_beside(const char *folder, const char *name, mode_t mode, struct bytes all) {
     char path[100], fresh[110];
     path_in(path, folder, name);
     snprintf(fresh, sizeof fresh, "%s.new", path);
-    write_bytes(fresh, O_TRUNC, 0666, all);
+    write_bytes(fresh, O_TRUNC, mode, all);
+}
+
+/* Puts the file that was written beside one of that name into its place. A loss of power leaves one of the two, whole. */
+static inline void put_in_place(const char *folder, const char *name) {
+    char path[100], fresh[110];
+    path_in(path, folder, name);
+    snprintf(fresh, sizeof fresh, "%s.new", path);
     if (rename(fresh, path) != 0) give_up(path);
     sync_folder(folder);
+}
+
+/* Puts a file into the place of one of that name. A loss of power leaves one of the two, whole. */
+static inline void replace_file(const char *folder, const char *name, struct bytes all) {
+    write_beside(folder, name, 0666, all);
+    put_in_place(folder, name);
+}
+
+/* A secret file of so many bytes, which its owner alone may read. */
+static inline void read_secret(const char *folder, const char *name, uint8_t *secret, size_t length) {
+    struct stat state;
+    FILE *file = open_file(folder, name, "rb");
+    if (fstat(fileno(file), &state) != 0) give_up(name);
+    if ((state.st_mode & 077) != 0) refuse("others may use it: its mode has to be 600", name);
+    read_to_end(file, name, secret, length);
+    fclose(file);
 }
 
 /* The seed of a general, 32 bytes in GENERAL.seed, which its owner alone may read. */
 static inline void read_seed(const char *folder, uint32_t general, uint8_t seed[32]) {
     char name[20];
-    struct stat state;
     snprintf(name, sizeof name, "%u.seed", general);
-    FILE *file = open_file(folder, name, "rb");
-    if (fstat(fileno(file), &state) != 0) give_up(name);
-    if ((state.st_mode & 077) != 0) refuse("others may use it: its mode has to be 600", name);
-    if (fread(seed, 1, 32, file) != 32 || fgetc(file) != EOF) refuse("not 32 bytes", name);
-    fclose(file);
+    read_secret(folder, name, seed, 32);
 }
 
 /* The number in decimal digits in front of a text, at most `most`; the text goes on behind it. */
@@ -136,6 +161,21 @@ static inline uint32_t read_number(const char *word, uint32_t most) {
     uint32_t number = (uint32_t)take_number(&end, most);
     if (*end != '\0') refuse("not a number", word);
     return number;
+}
+
+/* The number of a hexadecimal digit in lower case. */
+static inline uint8_t digit_of(const char *digits, int place) {
+    static const char known[] = "0123456789abcdef";
+    const char *found = digits[place] == '\0' ? NULL : strchr(known, digits[place]);
+    if (found == NULL) refuse("not 64 hexadecimal digits in lower case", digits);
+    return (uint8_t)(found - known);
+}
+
+/* 32 bytes of 64 hexadecimal digits. */
+static inline void read_digits(const char *digits, uint8_t bytes[32]) {
+    for (int place = 0; place < 32; place++)
+        bytes[place] = (uint8_t)(digit_of(digits, 2 * place) << 4 | digit_of(digits, 2 * place + 1));
+    if (digits[64] != '\0') refuse("not 64 hexadecimal digits in lower case", digits);
 }
 
 /* Whether a list goes on behind a comma, and not at its end. */

@@ -22,21 +22,6 @@ static void tell_root(const char *folder, uint32_t general, uint32_t version) {
     printf("\n");
 }
 
-/* The number of a hexadecimal digit in lower case. */
-static uint8_t digit_of(const char *digits, int place) {
-    static const char known[] = "0123456789abcdef";
-    const char *found = digits[place] == '\0' ? NULL : strchr(known, digits[place]);
-    if (found == NULL) refuse("not 64 hexadecimal digits in lower case", digits);
-    return (uint8_t)(found - known);
-}
-
-/* 32 bytes of 64 hexadecimal digits. */
-static void read_root(const char *digits, uint8_t root[32]) {
-    for (int place = 0; place < 32; place++)
-        root[place] = (uint8_t)(digit_of(digits, 2 * place) << 4 | digit_of(digits, 2 * place + 1));
-    if (digits[64] != '\0') refuse("not 64 hexadecimal digits in lower case", digits);
-}
-
 /* The edges of a text, and how many there are. */
 static size_t read_edges(const char *text, uint8_t edges[2 * MOST_EDGES]) {
     size_t count = 0;
@@ -57,7 +42,7 @@ static void make(const char *folder, char **words, int roots) {
     size_t count, edge_count = read_edges(words[7], edges);
     uint32_t fault;
     sm_pair equal;
-    for (int general = 0; general < roots; general++) read_root(words[8 + general], known + 32 * general);
+    for (int general = 0; general < roots; general++) read_digits(words[8 + general], known + 32 * general);
     for (int place = 0; place < 7; place++) given[place] = (uint8_t)read_number(words[place], UINT8_MAX);
     sm_numbers numbers = {given[0], given[1], given[2], given[3], given[4], given[5], given[6]};
     uint32_t status =

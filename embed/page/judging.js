@@ -6,7 +6,7 @@ const LONGEST = 1073741824;
 // The forms of an answer.
 const TEXT_FORM = 0, JSON_FORM = 1;
 // The bytes of a run id, of a root, of a pointer, of options, of a fact, and of the mark of a file.
-const ID_BYTES = 32, ROOT_BYTES = 32, POINTER_BYTES = 8, OPTIONS_BYTES = 32, FACT_BYTES = 88, MARK_BYTES = 4;
+const ID_BYTES = 32, ROOT_BYTES = 32, POINTER_BYTES = 8, OPTIONS_BYTES = 64, FACT_BYTES = 88, MARK_BYTES = 4;
 // The calls that take options.
 const WITH_OPTIONS = ["sm_audit", "sm_draw", "sm_accuse", "sm_evidence", "sm_receipt", "sm_receipts", "sm_decide", "sm_show"];
 // The kinds of files, by the mark that they begin with.
@@ -75,12 +75,14 @@ function factsIn(bytes) {
   return facts;
 }
 
-// Options in the memory of the module: run ids one after another, which are there already, and a form. All else is 0.
+// Options in the memory of the module: run ids one after another, which are there already, and a form. All else is 0, but no
+// address is null.
 function putOptions(of, ids, form) {
   const options = new DataView(new ArrayBuffer(OPTIONS_BYTES));
   options.setBigUint64(0, ids.at, true);
   options.setBigUint64(8, ids.length / BigInt(ID_BYTES), true);
   options.setUint32(20, form, true);
+  for (const place of [32, 48]) options.setBigUint64(place, ids.at, true);
   return put(of, new Uint8Array(options.buffer));
 }
 

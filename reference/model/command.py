@@ -4,7 +4,7 @@ from __future__ import annotations
 
 import os
 import re
-from dataclasses import dataclass, field
+from dataclasses import dataclass, field, replace
 from typing import Callable, Dict, List, Optional, Sequence, Tuple
 
 from . import json_text, show_json
@@ -18,7 +18,7 @@ from .evidence import read_evidence
 from .faults import Cursor, Fault
 from .follow import plain_sets
 from .helping import ALL_COMMANDS, VERSION, text_of_program
-from .identity import enroll, identity_text
+from .identity import enroll, identity_text, missing_behind
 from .network import read_header
 from .plan import plan_text, planned_header
 from .prepare import bundle_of_parts, header_of_text, root_text
@@ -26,7 +26,8 @@ from .receipt import RunReceipts, read_receipts, receipt_in, receipts_text
 from .run import play
 from .scenario import read_campaign_text, read_scenario
 from .show import decision_line, equal_root_lines, shown_lines, shown_runs
-from .system import admission_of_files, admitted_header, read_admission, read_system, system_of_text
+from .system import (Admission, admission_of_files, admitted_header, admitted_text, admitted_value, held_admission,
+                     read_admission, read_system, system_of_text)
 from .words import explain, with_words
 
 LONGEST_INPUT = 1_073_741_824
@@ -42,13 +43,15 @@ RANGES = {"capacity": (1, 16), "workers": (1, 16), "general": (0, 15), "slot": (
           "number": (0, 4_294_967_295)}
 # What the options take whose range is not told.
 TAKEN = {"number": "the number of a run"}
-# Of each command what else it takes: the run ids that are asked for, who is held for faulty, a context, and flags.
+# What says of which runs an input has to be.
+OF_RUNS = ("run", "admission", "system")
+# Of each command what else it takes: of which runs its input has to be, who is held for faulty, a context, a file, and flags.
 TAKES = {
     "decide": ("json",), "run": ("print-run",), "judge": ("strict", "json"), "campaign": ("print-run",),
-    "audit": ("run", "faulty", "strict", "json"), "draw": ("run", "faulty"), "accuse": ("run", "receipts"),
-    "evidence": ("run", "json"), "receipt": ("run",), "receipts": ("run", "json"), "show": ("run", "json"), "root": ("tall",),
-    "header": ("print-run",), "bundle": ("faulty",), "enroll": ("tall",), "system": ("context", "turns", "tall", "print-id"),
-    "admission": ("print-id",), "admit": ("print-id",),
+    "audit": (*OF_RUNS, "faulty", "strict", "json"), "draw": (*OF_RUNS, "faulty"), "accuse": (*OF_RUNS, "receipts"),
+    "evidence": (*OF_RUNS, "json"), "receipt": OF_RUNS, "receipts": (*OF_RUNS, "json"), "show": (*OF_RUNS, "json"),
+    "root": ("tall",), "header": ("print-run",), "bundle": ("faulty",), "enroll": ("tall", "resume"),
+    "system": ("context", "turns", "tall", "print-id"), "admission": ("print-id",), "admit": ("print-id",),
 }
 FLAGS = ("strict", "print-run", "json", "tall", "receipts", "turns", "print-id")
 # The commands of several files: how many words for files they take, at least and at most.
@@ -57,6 +60,8 @@ FILES = {"bundle": (1, None), "answer": (2, 2), "admission": (1, None)}
 LISTED = {"bundle": ("G=LOG", "header"), "admission": ("G=ROOTS", "system")}
 # The commands whose output is bytes.
 WRITE_BYTES = ("run", "campaign", "accuse", "receipt", "header", "bundle", "enroll", "system", "admission", "admit")
+# The commands whose output has no lines, so that others tell of which runs their input is.
+WITHOUT_LINES = ("draw", "accuse", "receipt")
 # The options that a command requires.
 REQUIRED = {"accuse": ("general",), "receipt": ("general",), "enroll": ("levels",), "system": ("levels", "context"),
             "admission": ("number",), "admit": ("number",)}
@@ -88,14 +93,30 @@ class Job:
     generals: Tuple[int, ...] = ()
     # Of `system` what the users agree on.
     context: bytes = b""
+    # Of `enroll` the file that the roots begin with.
+    resume: Optional[str] = None
+    # The file with the admission of whose runs the input has to be, and the system id that the admission has to be of.
+    admission: Optional[str] = None
+    system: Optional[bytes] = None
 
     def sources(self) -> Tuple[str, ...]:
         """The files that are read, in this order; `-` is standard input (COMMANDS.md#words)."""
-        return () if self.command == "explain" else self.files or ("-",)
+        if self.command == "explain":
+            return ()
+        before, behind = (() if it is None else (it,) for it in (self.admission, self.resume))
+        return before + (self.files or ("-",)) + behind
 
     def name(self) -> Optional[str]:
         """The name of the file of the one input; standard input has none (FORMATS.md#where-an-answer-comes-from)."""
-        return next((name for name in self.sources()[:1] if name != "-"), None)
+        return next((name for name in self.files[:1] if name != "-"), None)
+
+    def reads(self) -> str:
+        """The command whose inputs this one reads."""
+        return "receipts" if "receipts" in self.flags else self.command
+
+    def asking(self, place: int) -> Job:
+        """What asks for the source at a place: for an admission it asks for no JSON (COMMANDS.md#exit-status)."""
+        return replace(self, flags=()) if self.admission is not None and place == 0 else self
 
 
 def _number_in(value: str, least: int, most: int) -> Optional[int]:
@@ -130,11 +151,21 @@ def _run_ids(text: str) -> List[bytes]:
     return [bytes.fromhex(part) for part in parts]
 
 
-def _context(text: str) -> bytes:
-    """What the users of a system agree on (COMMANDS.md#words)."""
-    if not re.fullmatch("[0-9a-fA-F]{64}", text):
-        raise Refused("--context takes 64 hexadecimal digits")
-    return bytes.fromhex(text)
+def _digits(option: str, options: Dict[str, str]) -> Optional[bytes]:
+    """The 32 bytes of an option that stands there (COMMANDS.md#words)."""
+    text = options.get(option)
+    if text is not None and not re.fullmatch("[0-9a-fA-F]{64}", text):
+        raise Refused(f"--{option} takes 64 hexadecimal digits")
+    return None if text is None else bytes.fromhex(text)
+
+
+def _system(options: Dict[str, str]) -> Optional[bytes]:
+    """The system id that is asked for. It stands beside an admission alone, and that beside no run ids (COMMANDS.md#words)."""
+    if "system" in options and "admission" not in options:
+        raise Refused("--system stands beside --admission alone")
+    if "run" in options and "admission" in options:
+        raise Refused("--run and --admission do not stand together")
+    return _digits("system", options)
 
 
 def _is_text(word: str) -> bool:
@@ -205,10 +236,7 @@ def _read_options(command: str, words: List[str]) -> Given:
 
 
 def _generals(command: str, files: List[str]) -> Tuple[int, ...]:
-    """The generals of words as G=LOG, of which the list keeps the files; standard input is at most one of these.
-
-    COMMANDS.md#words.
-    """
+    """The generals of words as G=LOG, of which the list keeps the files (COMMANDS.md#words)."""
     generals: List[int] = []
     for at in range(1, len(files) if command in LISTED else 0):
         general, equals, files[at] = files[at].partition("=")
@@ -216,8 +244,6 @@ def _generals(command: str, files: List[str]) -> Tuple[int, ...]:
         if number is None:
             raise Refused("{} takes {} behind the {}, where G is a number from 0 to 15".format(command, *LISTED[command]))
         generals.append(number)
-    if files.count("-") > 1:
-        raise Refused("standard input stands twice")
     return tuple(generals)
 
 
@@ -252,9 +278,14 @@ def read_words(words: List[str]) -> Job:
     numbers = {option: _number(option, given.options[option]) for option in told}
     runs = _run_ids(given.options["run"]) if "run" in given.options else None
     faulty = _faulty(given.options["faulty"]) if "faulty" in given.options else None
-    context = _context(given.options["context"]) if "context" in given.options else b""
+    context = _digits("context", given.options) or b""
     generals = _generals(words[0], given.files)
-    return Job(words[0], numbers, runs, faulty, tuple(given.flags), tuple(given.files), generals, context)
+    system, admission = _system(given.options), given.options.get("admission")
+    job = Job(words[0], numbers, runs, faulty, tuple(given.flags), tuple(given.files), generals, context,
+              given.options.get("resume"), admission, system)
+    if job.sources().count("-") > 1:
+        raise Refused("standard input stands twice")
+    return job
 
 
 def job_asked(words: List[str]) -> Optional[Job]:
@@ -439,9 +470,9 @@ def _version(job: Job) -> int:
     return 2 if "tall" in job.flags else 1
 
 
-def enroll_secret(given: bytes, job: Job) -> Tuple[int, bytes]:
+def enroll_secret(given: bytes, front: bytes = b"", *, job: Job) -> Tuple[int, bytes]:
     """The command enroll (FORMATS.md#roots-of-an-identity)."""
-    return 0, enroll(given, _version(job), job.numbers["levels"]).spell()
+    return 0, missing_behind(front, enroll(given, _version(job), job.numbers["levels"]).spell())
 
 
 def tell_identity(given: bytes, job: Job) -> Tuple[int, bytes]:
@@ -567,7 +598,7 @@ def line_behind(job: Job, inputs: Sequence[bytes], words: str) -> str:
     if job.command in OF_SYSTEMS:
         return ""
     if job.command not in FILES:
-        return kind_line(job.sources()[0], inputs[0], READS["receipts" if "receipts" in job.flags else job.command])
+        return kind_line(job.sources()[0], inputs[0], READS[job.reads()])
     for begins, (place, kind) in WITHIN[job.command].items():
         if words.startswith(begins):
             name = job.sources()[place]
@@ -591,14 +622,46 @@ def not_read(job: Job, name: str, reason: str, front: bytes = b"") -> Answer:
 
 def answer_job(job: Job, inputs: Sequence[bytes]) -> Answer:
     """The status, the output and the error of a job on its inputs (COMMANDS.md#exit-status)."""
-    for name, given in zip(job.sources(), inputs):
+    for place, (name, given) in enumerate(zip(job.sources(), inputs)):
         if len(given) > LONGEST_INPUT:
-            return not_read(job, name, f"it has more than {LONGEST_INPUT} bytes", given)
+            return not_read(job.asking(place), name, f"it has more than {LONGEST_INPUT} bytes", given)
+    if job.admission is not None:
+        return answer_admitted(job, *inputs)
     try:
         status, output = COMMANDS[job.command](*inputs, job=job)
     except Fault as fault:
         return failed(job, 3, f"fault {fault.words}", line_behind(job, inputs, fault.words), inputs[0])
     return status, output, told_of(job, inputs, output)
+
+
+def _read_runs(given: bytes, job: Job) -> List[bytes]:
+    """The ids of the runs that an input is of; none if it does not read (COMMANDS.md#exit-status)."""
+    try:
+        return [read_receipts(given).header.run_id] if job.reads() == "receipts" else shown_runs(given)
+    except Fault:
+        return []
+
+
+def answer_admitted(job: Job, shown: bytes, given: bytes) -> Answer:
+    """The answer of a job on an input that has to be of runs of an admission (FORMATS.md#admitted-runs)."""
+    try:
+        admission = held_admission(shown, job.system)
+    except Fault as fault:
+        return failed(job.asking(0), 3, f"fault {fault.words}", "", b"")
+    ids = _read_runs(given, job)
+    runs = [run for run in admission.runs() if admission.header_of(run).run_id in ids]
+    asked = ids if 0 < len(ids) == len(runs) else [admission.header_of(admission.runs()[0]).run_id]
+    status, output, said = answer_job(replace(job, runs=asked, admission=None), [given])
+    return (status, output, said) if status > 1 else (status, *_told_beside(job, admission, runs, output, said))
+
+
+def _told_beside(job: Job, admission: Admission, runs: Sequence[int], output: bytes, said: bytes) -> Tuple[bytes, bytes]:
+    """An output and what is said beside it, with what an admission shows of runs (FORMATS.md#admitted-runs)."""
+    if "json" in job.flags:
+        told = json_text.line_of({"admitted": admitted_value(admission, runs)})
+        return told[:-2] + b"," + output[1:], said
+    told = admitted_text(admission, runs)
+    return (output, said + told) if job.command in WITHOUT_LINES else (told + output, said)
 
 
 def refused_text(refused: Refused, words: List[str]) -> Answer:

@@ -11,6 +11,7 @@ from .faults import Cursor, Fault
 MARKS = {1: b"SMI1", 2: b"SMI2"}
 MOST_LEVELS = 20
 SECRET_BYTES = 32
+HEAD_BYTES, ROOT_BYTES = 5, 32
 Opening = Tuple[bytes, ...]
 
 
@@ -169,6 +170,16 @@ def enroll(secret: bytes, version: int, levels: int) -> Roots:
         roots.append(keys.root(set_seed(state), keys.height_of(version)))
         state = next_state(state)
     return Roots(version, tuple(roots))
+
+
+def missing_behind(front: bytes, whole: bytes) -> bytes:
+    """The bytes of roots behind those that are there, or I5 (FORMATS.md#roots-of-an-identity)."""
+    whole_roots = max(0, len(front) - HEAD_BYTES) // ROOT_BYTES
+    last = HEAD_BYTES + ROOT_BYTES * max(0, whole_roots - 1)
+    own = whole[:len(front)]
+    if len(front) > len(whole) or front[:HEAD_BYTES] != own[:HEAD_BYTES] or front[last:] != own[last:]:
+        raise Fault("I5")
+    return whole[len(front):]
 
 
 def identity_text(data: bytes) -> bytes:

@@ -4,7 +4,7 @@ from __future__ import annotations
 
 from dataclasses import dataclass
 from functools import cached_property
-from typing import List, Sequence, Tuple
+from typing import Any, Dict, List, Optional, Sequence, Tuple
 
 from . import keys
 from .faults import Cursor, Fault
@@ -67,6 +67,10 @@ class System:
     def node_of(self, run: int, general: int) -> int:
         """Which node a general of a run is (FORMATS.md#runs-of-a-system)."""
         return general if self.proposer == FIRST else (run + general) % self.nodes
+
+    def nodes_of(self, run: int) -> List[int]:
+        """Which nodes the generals of a run are, general 0 first (FORMATS.md#runs-of-a-system)."""
+        return [self.node_of(run, general) for general in range(self.nodes)]
 
     def net_of(self, run: int) -> Network:
         """The network of a run (FORMATS.md#runs-of-a-system)."""
@@ -143,7 +147,7 @@ class Admission:
         return Header(system.header.version, system.slot_of(run), system.net_of(run), roots)
 
     def runs(self) -> List[int]:
-        """The numbers of the runs of the set (FORMATS.md#runs-of-a-system)."""
+        """The numbers of the runs of the set, ascending (FORMATS.md#runs-of-a-system)."""
         first = self.number * self.system.runs_of_set
         return list(range(first, first + self.system.runs_of_set))
 
@@ -202,11 +206,36 @@ def admission_of_files(data: bytes, run: int, nodes: Sequence[int], files: Seque
     return Admission(system, number, tuple(root for root, _ in shown), tuple(opening for _, opening in shown))
 
 
-def admitted_header(data: bytes, run: int) -> Header:
-    """The header of a run that an admission admits, or its first fault (FORMATS.md#admission)."""
+def held_admission(data: bytes, system: Optional[bytes]) -> Admission:
+    """The admission that bytes are, which holds and is of the system of an id, or its first fault (FORMATS.md#admission)."""
     admission = read_admission(data)
     if not admission.holds():
         raise Fault("A7")
+    if system not in (None, admission.system.id):
+        raise Fault("A11")
+    return admission
+
+
+def admitted_header(data: bytes, run: int) -> Header:
+    """The header of a run that an admission admits, or its first fault (FORMATS.md#admission)."""
+    admission = held_admission(data, None)
     if run not in admission.runs():
         raise Fault("A8")
     return admission.header_of(run)
+
+
+# Admitted runs.
+
+
+def admitted_text(admission: Admission, runs: Sequence[int]) -> bytes:
+    """The lines of some runs of an admission (FORMATS.md#admitted-runs)."""
+    system = admission.system
+    lines = [f"system {system.id.hex()}"] + [f"run {run} nodes {' '.join(map(str, system.nodes_of(run)))}" for run in runs]
+    return "".join(f"{line}\n" for line in lines).encode("ascii")
+
+
+def admitted_value(admission: Admission, runs: Sequence[int]) -> Dict[str, Any]:
+    """The object of some runs of an admission (FORMATS.md#admitted-runs)."""
+    system = admission.system
+    told = [{"nodes": system.nodes_of(run), "number": run, "run": admission.header_of(run).run_id.hex()} for run in runs]
+    return {"runs": told, "system": system.id.hex()}

@@ -64,7 +64,17 @@ def command_text(row: Row) -> str:
     return f"{status} {output_text(given)}"
 
 
-# The reference's answer to each call; the form in which a command is called changes none.
+def lost_text(row: Row) -> str:
+    """The answer of a command whose output is lost: that it could not be written, if there is one."""
+    words, given = row.word().split(), row.bytes()
+    if not asks_for_job(words):
+        return "2"
+    status, _, error = answered(words, given)
+    return f"{status} {error.decode('utf-8').splitlines()[0]}" if error and status > 1 else "5 write failed"
+
+
+# The reference's answer to each call; the form in which a command is called changes only that of a lost output.
 CALLS: Dict[str, Callable[[Row], str]] = {
     "words": asked_text, "command": command_text, "over_bytes": command_text, "in_place": command_text,
+    "lost": lost_text,
 }

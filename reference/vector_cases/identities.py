@@ -1,15 +1,20 @@
-"""Vectors of states, identities, openings, systems and admissions, and of the commands that make these."""
+"""Vectors of states, identities, openings, systems and admissions, of the commands that make these, of the run that is next, and of
+admitted runs."""
 
 from __future__ import annotations
 
 from typing import Callable, Dict, Iterable, List, Optional, Sequence, Tuple
 
+from model.bundle import Bundle, spell_campaign
+from model.clock import MOST_RUNS, Timetable
+from model.evidence import Evidence, Head, Signed, TwoTexts
 from model.faults import Cursor
-from model.identity import Identity, NumberedState, Roots, next_state, read_opening, read_roots, spell_opening
+from model.identity import Identity, NumberedState, Roots, enroll, next_state, read_opening, read_roots, spell_opening
 from model.network import Header
 from model.system import FIRST, TURNS, Admission, System, read_system
 
 from .parts import Piece, Vector, command, command_of_files, packed, reading, with_byte
+from .receipts import small_receipt
 from .small import network_of
 from .texts import LINE, scenario_lines, text_of
 
@@ -70,6 +75,25 @@ def identity_vectors() -> Iterable[Vector]:
     yield command("and its identity", "identity", [{"words": ["enroll", "--levels", "1"], "input": packed(bytes(32))}])
     for count in (0, 31, 33):
         yield command(f"a secret of {count} bytes", "enroll --levels 20", bytes(count))
+    yield from resumed_vectors()
+
+
+def resumed_vectors() -> Iterable[Vector]:
+    """Roots behind their beginning, and behind bytes that are no beginning of them."""
+    whole = enroll(bytes(32), 1, 1).spell()
+    for count in (0, 4, 5, 36, 37, 40, len(whole) - 1, len(whole)):
+        yield resumed(f"behind {count} bytes", "enroll --levels 1", whole[:count])
+    for about, front in (("another mark", b"SMI2" + whole[4:]), ("another number of levels", with_byte(whole, 4, 0)),
+                         ("a byte is left over", whole + b"\0"), ("another root that is not whole", with_byte(whole[:20], 19, 0)),
+                         ("another last whole root", with_byte(whole[:-1], 5, 0)), ("another last byte", with_byte(whole, -1, 0))):
+        yield resumed(about, "enroll --levels 1", front)
+    yield resumed("another first root, which is not looked at", "enroll --levels 1", with_byte(whole, 5, 0))
+    yield resumed("trees of another height", "enroll --levels 1 --tall", whole)
+
+
+def resumed(about: str, words: str, front: bytes) -> Vector:
+    """A secret of 32 zero bytes, enrolled behind a front."""
+    return command_of_files(about, f"{words} --resume front secret", {"secret": packed(bytes(32)), "front": packed(front)})
 
 
 def opening_reader(identity: Identity, index: int, root: bytes) -> Callable[[bytes], Vector]:
@@ -341,12 +365,99 @@ def admission_vectors() -> Iterable[Vector]:
         yield made(f"roots of node 1: {about}", both, system.spell(), A=one, B=data)
 
 
+# Admitted runs.
+
+
+def inputs_of(header: Header) -> Iterable[Tuple[str, str, bytes]]:
+    """Inputs of the run of a header with the commands that read them, in which no signature verifies."""
+    bundle = Bundle(header, (), (), ()).spell()
+    heads = [Signed(Head(entries, bytes(32)), bytes(header.signature_length)) for entries in (2, 3)]
+    evidence = Evidence(header, 0, TwoTexts(*heads)).spell()
+    yield from [("show", "a header", header.spell()), ("audit", "a bundle", bundle), ("show", "a bundle", bundle),
+                ("evidence", "evidence", evidence), ("show", "evidence", evidence),
+                ("receipts", "a receipt", small_receipt(header=header))]
+
+
+def of_admission(about: str, words: str, admission: bytes, given: bytes) -> Vector:
+    """A command on an input beside an admission."""
+    return command_of_files(about, f"{words} --admission ADMISSION INPUT", {"ADMISSION": packed(admission), "INPUT": packed(given)})
+
+
+def told_vectors() -> Iterable[Vector]:
+    """Inputs of runs that an admission shows."""
+    for version, run in ((1, 1), (2, 7)):
+        for proposer in (FIRST, TURNS):
+            shown = admission_of(line_system(version, proposer), 1)
+            for name, what, given in inputs_of(shown.header_of(run)):
+                about = f"{what} of run {run}, version {version}, proposer {proposer}"
+                for more in ("", " --json"):
+                    yield of_admission(about, name + more, shown.spell(), given)
+    shown = admission_of(line_system(2, FIRST), 1)
+    for runs in ((6,), (4, 7), (4, 5, 6, 7)):
+        given = spell_campaign([Bundle(shown.header_of(run), (), (), ()) for run in runs])
+        for words in ("audit", "audit --json", "show", "show --json", "audit --faulty 1 --strict"):
+            yield of_admission(f"a campaign of the runs {runs}", words, shown.spell(), given)
+    for words in (f"show --system {shown.system.id.hex()}", f"show --json --system={shown.system.id.hex().upper()}"):
+        yield of_admission("of a system that is named", words, shown.spell(), shown.header_of(5).spell())
+
+
+def unadmitted_vectors() -> Iterable[Vector]:
+    """Faults of an admission beside an input, and inputs of other runs."""
+    shown, other = (admission_of(line_system(2, FIRST), number) for number in range(2))
+    whole, bad, system = shown.spell(), with_byte(shown.spell(), -1, 0), f"show --system {'0' * 64}"
+    header, bundle = shown.header_of(0), Bundle(shown.header_of(0), (), (), ())
+    changed = Header(2, 1, network_of(3, LINE, diameter=2, orders=3), header.roots)
+    both = spell_campaign([bundle, Bundle(changed, (), (), ())])
+    yield from [of_admission("another system is named", system, whole, header.spell()),
+                of_admission("another system is named, and the run is of another set", system, whole, other.header_of(4).spell()),
+                of_admission("another system is named, and the admission does not hold", system, bad, header.spell()),
+                of_admission("the admission does not hold, and the input is none", "audit", bad, b""),
+                of_admission("no admission", "audit", b"", bundle.spell()),
+                of_admission("bytes behind the admission", "audit", whole + b"\0", bundle.spell()),
+                of_admission("the two files in each other's place", "audit", bundle.spell(), whole)]
+    for name, what, given in inputs_of(other.header_of(5)):
+        yield of_admission(f"{what} of a run of another set", name, whole, given)
+    for about, words, given in [("a run of these roots with another network", "show", changed.spell()),
+                                ("a campaign with such a run", "audit", both),
+                                ("bytes behind a header", "show", header.spell() + b"\0"),
+                                ("a bundle that ends early", "audit", bundle.spell()[:-1]),
+                                ("a bundle that ends early", "show", bundle.spell()[:-1]),
+                                ("no bytes", "evidence", b""), ("a header", "audit", header.spell()),
+                                ("a list with a general that is none", "audit --faulty 3", bundle.spell()),
+                                ("such a list, and a run of another set", "audit --faulty 3",
+                                 Bundle(other.header_of(5), (), (), ()).spell()),
+                                ("a bundle", "receipts", bundle.spell())]:
+        yield of_admission(about, words, whole, given)
+
+
+# The next run.
+
+
+def next_run_vectors() -> Iterable[Vector]:
+    """Which run a node begins next, by times of less than 2^53, which each reader of JSON takes."""
+    start, period, last = 1_798_761_600_000, 1000, MOST_RUNS - 1
+    end = start + last * period
+    for about, now, mark in (("before the start", start - 1, None), ("at the start", start, None), ("just behind the start", start + 1, None),
+                             ("at run 7", start + 7 * period, None), ("just behind run 7", start + 7 * period + 1, None),
+                             ("run 6 was begun", start + 7 * period, 6), ("run 7 was begun", start + 7 * period, 7),
+                             ("the clock was set back", 0, 7), ("the clock stands before 1970", -period, 7),
+                             ("a run was left out", start + 9 * period, 7), ("at the last run", end, 7),
+                             ("the last run is left", start, last - 1), ("behind the last run", end + 1, 7),
+                             ("the last run was begun", start, last), ("a mark that no run has", start, last + 1)):
+        found = Timetable(start, period).next_run(now, mark)
+        yield {"about": f"the next run: {about}", "now": now, "start": start, "period": period, "mark": mark,
+               "result": found and {"run": found[0], "begins": found[1]}}
+
+
 def identity_case_vectors() -> Iterable[Vector]:
     """All of these."""
     yield from state_vectors()
+    yield from next_run_vectors()
     yield from identity_vectors()
     yield from opening_vectors()
     yield from system_vectors()
     yield from text_vectors()
     yield from admit_vectors()
     yield from admission_vectors()
+    yield from told_vectors()
+    yield from unadmitted_vectors()

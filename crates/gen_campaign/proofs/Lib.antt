@@ -7,7 +7,7 @@ pub mod Keeping
 pub mod Makes
 pub mod OneTexts
 pub mod OtherSlots
-pub mod Places
+pub mod PlaceLaws
 pub mod RunCounts
 pub mod RunLaws
 pub mod Serving

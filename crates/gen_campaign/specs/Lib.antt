@@ -6,8 +6,8 @@ pub mod CampaignReading
 pub mod CampaignSpelling
 pub mod CampaignText
 pub mod CampaignTextReading
-pub mod CampaignVerdictText
 pub mod FaultText
+pub mod FileRuns
 pub mod JoinsTested
 pub mod Judged
 pub mod Leaves

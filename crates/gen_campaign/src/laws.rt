@@ -3,7 +3,6 @@
 ghost use Rattle.std.specs.Prelude.{◌≡◌, Ok};
 ghost use Rattle.gen_types.specs.Spelled.{HasOneSpelling};
 ghost use Rattle.gen_campaign.specs.Campaign.{CampaignBundle, IsCampaign};
-ghost use Rattle.gen_campaign.specs.CampaignPlaces.{OneBundleAsPrinted};
 ghost use Rattle.gen_campaign.specs.CampaignReading.{whole_campaign};
 ghost use Rattle.gen_campaign.specs.CampaignSpelling.{campaign_spelling};
 ghost use Rattle.gen_campaign.specs.JoinsTested.{JoinsDecides};
@@ -20,11 +19,9 @@ pub fn one_campaign_spelling()
 {}
 
 /// States that bytes that do not begin with `SMC2` are read as `read_bundle` of `gen_audit` reads them. A
-/// bundle that it reads stands alone, and its faults are answered (`read`). The text of the verdict on such a
-/// bundle is that of its judgement, as `print_verdict` of `gen_report` gives it (`printed`).
+/// bundle that it reads stands alone, and its faults are answered.
 pub fn one_bundle_is_as_before()
-    ensures read { OneBundleAsBefore }
-    ensures printed { OneBundleAsPrinted }
+    ensures { OneBundleAsBefore }
 {}
 
 /// States that the test whether a run may stand behind another in one campaign is true if and only if the

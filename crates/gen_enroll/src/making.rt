@@ -127,7 +127,7 @@ fn append_turn<R: Threads + Sync>(
 
 /// Returns the roots of `count` sets, that of the state first, whose trees have this height. They are the same whatever
 /// the number of workers. The workers make trees side by side, each those of as many sets as each other worker or one
-/// more, up to 4,096 at a time. The last one works in the calling thread, each other in a thread of its own where one can
+/// more, up to 4,096 at a time. One of them works in the calling thread, each other in a thread of its own where one can
 /// be started, and one alone starts none. Beside the roots each worker holds those of its sets at a time and one tree.
 ///
 /// So a long run can be made in pieces: the next piece begins at the state that stands `count` steps behind this one.

@@ -1,1 +1,4 @@
 pub mod Gathered
+pub mod Missing
+pub mod Told
+pub mod Writing

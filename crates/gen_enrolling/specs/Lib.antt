@@ -1,4 +1,9 @@
+pub mod Admitted
 pub mod Admitting
+pub mod Asking
 pub mod Enrolling
 pub mod Gathering
+pub mod Loops
+pub mod Resuming
 pub mod Systems
+pub mod Telling

@@ -11,7 +11,10 @@ use gen_types::ReadError;
 use std::alloc::Global;
 
 /// Returns the admission that the bytes are.
-fn admission_read(alloc: Global, bytes: &[u8]) -> Result<Admission, ReadError<EnrollFault>>
+pub(crate) fn admission_read(
+    alloc: Global,
+    bytes: &[u8],
+) -> Result<Admission, ReadError<EnrollFault>>
     ensures { IsRead result (admission_read bytes.now) }
 {
     match admission_alone(alloc, bytes) {

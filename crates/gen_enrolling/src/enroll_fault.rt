@@ -35,4 +35,7 @@ pub enum EnrollFault {
     /// The file of roots of a node is not that of its identity in the system.
     #[error("fault A10 node {0}")]
     OtherIdentity(GeneralNo),
+    /// The admission is of another system than the one whose id is asked for.
+    #[error("fault A11")]
+    OtherSystem,
 }

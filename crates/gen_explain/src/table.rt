@@ -2,6 +2,8 @@
 
 /// The rows, a line each: the name, the form of the line in which it stands, and the sentence, parted by bars.
 pub const WORDS: &str = "\
+system S|system S|The admission is of the system with the id S: compare it with an id that you know.\n\
+run N nodes|run N nodes NAMES|By the admission this is run N of the system, and behind stands the node that each general is, general 0 first.\n\
 run R|run R|The run id is R, the hash of the header in the input: compare it with a run id that you know, since anybody can write a header.\n\
 agreed|verdict agreed V|Nothing is found, no more generals are held for faulty than the run is planned for, and all of the rest decided order V.\n\
 explained|verdict explained|Nothing is found, but more generals are held for faulty than the run is planned for, so the rest may have decided different orders.\n\
@@ -110,10 +112,12 @@ A6|A6|Bytes are left over behind the admission.\n\
 A7|A7|The admission does not hold: a root is not that of the identity of its node.\n\
 A8|A8|The run is not of the set of the admission, or the system has no such run.\n\
 A9|A9|There is not one file of roots for each node, node 0 first.\n\
+A11|A11|The admission is of another system than --system names.\n\
 I1|I1|The input ends before the roots do.\n\
 I2|I2|The first four bytes are neither SMI1 nor SMI2.\n\
 I3|I3|The levels are above 20.\n\
 I4|I4|Bytes are left over behind the roots.\n\
+I5|I5|The file of --resume is of another secret, or of other levels or another height.\n\
 O1|O1|The input ends before the opening does.\n\
 O2|O2|An opening has more than 20 siblings.\n\
 U1|U1|The input ends before the system does.\n\
@@ -187,6 +191,7 @@ held for faulty|held for faulty|The judgement holds the general for faulty, and 
 suspected|suspected|One of the findings N1 to N9 names the general, which is neither convicted nor held for faulty: another one may have caused the finding.\n\
 trusted|trusted|Nothing was found against the general, which is not held for faulty: it may still have departed from the algorithm.\n\
 accused|accused|The general that the evidence accuses.\n\
+admitted|admitted|What an admission tells of the runs of the input.\n\
 asked|asked|What was asked for beside the input: the list of those held for faulty, and the runs.\n\
 bundle|bundle|A file with the logs of one run: a header, the list of those held for faulty, walks and logs.\n\
 byte|byte|The byte of the file at which this stands, counted from 0.\n\
@@ -227,6 +232,8 @@ logs|logs|What each log that reads says its general decided, in the order of the
 missing|missing|The statement that is signed and that the log has no SIGN of.\n\
 name|name|The name of the file of the input, or null for standard input.\n\
 network|network|The numbers for which the run is planned.\n\
+nodes|nodes|The node that each general of the run is, general 0 first.\n\
+number|number|The number of the run in its system.\n\
 of|of|The general for which the log is shown.\n\
 order|order|The number of an order, which is a value to agree on.\n\
 orders|orders|How many orders the network has.\n\
@@ -266,6 +273,7 @@ start|start|The first entry of a log.\n\
 statement|statement|An order with a path: what a general signs to send it on.\n\
 status|status|What the judgement says of a general: convicted, held for faulty, suspected or trusted; of a fault the exit status.\n\
 statuses|statuses|The status of each general.\n\
+system|system|The id of the system.\n\
 text|text|Whether what is signed is a statement or the head of a log.\n\
 to|to|The general that the message was sent to.\n\
 tool|tool|The version of the program that answered.\n\

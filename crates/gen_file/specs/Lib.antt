@@ -1,4 +1,6 @@
+pub mod EqualRootsText
 pub mod FaultText
 pub mod FileFaultText
 pub mod Kinds
+pub mod Lists
 pub mod Parts

@@ -7,16 +7,20 @@
 //! the bytes may be anything.
 #![tactic(auto)]
 
+mod equal_roots;
 mod faults;
 mod file_faults;
 mod kinds;
+mod lists;
 mod marks;
 mod parts;
 mod shown;
 
+pub use equal_roots::push_equal_roots;
 pub use faults::{push_header_fault, push_log_fault};
 pub use file_faults::{push_bundle_fault, push_evidence_fault};
 pub use kinds::FileKind;
+pub use lists::{push_generals, push_members};
 pub use marks::{BUNDLE_MARKS, EVIDENCE_MARKS, begins_header, file_kind, version_number};
 pub use parts::{
     EXHIBIT_FRONT, LOG_FRONT, bundle_front_length, claim_log_at, exhibit_bytes, front_length,

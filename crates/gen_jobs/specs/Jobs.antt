@@ -8,7 +8,7 @@ use Rattle.gen_receipting.specs.Accusing.{AccusesByReceipts}
 use Rattle.gen_receipting.specs.Giving.{IsReceiptFault, IsReceiptIn}
 use Rattle.gen_receipting.specs.Telling.{AreReceiptsFault, AreReceiptsTold}
 use Rattle.gen_telling.specs.Decide.{IsDecidedIn, IsDecideFault}
-use Rattle.gen_jobs.specs.Planning.{IsPlan, IsPlanFault}
+use Rattle.gen_telling.specs.Planning.{IsPlan, IsPlanFault}
 use Rattle.gen_making.specs.Preparing.{IsHeaderFault, IsHeaderOf, IsRoot, IsRootFault}
 use Rattle.gen_making.specs.Run.{IsRunAnswer, IsRunFault}
 use Rattle.gen_telling.specs.Showing.{IsShownFault, IsShownIn}

@@ -1,9 +1,5 @@
 pub mod Accepted
 pub mod AcceptedCampaigns
 pub mod Facts
-pub mod InputKinds
 pub mod Jobs
 pub mod Judging
-pub mod Naming
-pub mod PlanText
-pub mod Planning

@@ -1,23 +1,19 @@
 //! Jobs in the caller's thread: no thread is started, and none is waited for.
 //!
 //! They serve callers that have no threads to give, such as a library for C.
-ghost use Rattle.std.specs.Prelude.{◌≡◌, [], IfErr, IfOk, IfSome, OnOk, option_map};
+ghost use Rattle.std.specs.Prelude.{◌≡◌, [], IfErr, IfOk, OnOk, option_map};
 ghost use Rattle.gen_asked.specs.Ranges.{IsInRange};
-ghost use Rattle.gen_ends.specs.Answering.{Answers};
-ghost use Rattle.gen_ends.specs.Ends.{IsTaken, KeepsUntilWhole};
 ghost use Rattle.gen_jobs.specs.Facts.{JobFacts};
 ghost use Rattle.gen_jobs.specs.Jobs.{JobAnswers, JobFails};
 
-use crate::planning::plan;
 use gen_asked::Job;
-use gen_ends::{JobEnd, JobFault, Output, deliver, read_all};
+use gen_ends::{JobFault, Output};
 use gen_facts::Fact;
 use gen_judging::{accuse_in_place, audit_in_place, draw_in_place, evidence};
 use gen_making::{header, root};
 use gen_receipting::{accuse_by_receipts, receipt, receipts};
-use gen_telling::{decide, show, tell};
+use gen_telling::{decide, plan, show, tell};
 use std::alloc::Global;
-use std::io::{Read, Write};
 
 /// The answer of a job, and what it found as rows of numbers.
 #[derive(Debug, Drop)]
@@ -94,35 +90,4 @@ pub fn answer_in_place(
     let mut facts = Vec::new(alloc);
     let output = output_in_place(alloc, job, name, input, &mut facts)?;
     Ok(Answered { output, facts })
-}
-
-/// Does a job in the caller's thread: reads its input to its end, and writes the answer once it is whole.
-#[tactic(auto, using(gen_ends::proofs::Delivering::output_engine))]
-pub(crate) fn engine_in_place<R: Read, W: Write>(
-    alloc: Global,
-    job: Job,
-    name: Option<&str>,
-    reader: &mut R,
-    writer: &mut W,
-) -> JobEnd
-    requires { IsInRange job }
-    // What is written is what this job makes of what was read.
-    ensures answers { IfSome (R.remaining reader.old) (λ input.
-        Answers (JobAnswers job (option_map (λ t. t.now) name.entry) input) (JobFails job input)
-        (W.contents writer.old) (W.contents writer.new) result) }
-    // What was read is within the limit.
-    ensures taken { IfSome (R.remaining reader.old) (λ input. IsTaken input result) }
-    // Nothing is written before the output is whole.
-    ensures late { KeepsUntilWhole (W.contents writer.old) (W.contents writer.new) result }
-{
-    match read_all(alloc, reader) {
-        Ok(input) => {
-            let mut facts = Vec::new(alloc);
-            deliver(
-                writer,
-                output_in_place(alloc, job, name, &input, &mut facts),
-            )
-        }
-        Err(fault) => JobEnd::Failed(fault),
-    }
 }

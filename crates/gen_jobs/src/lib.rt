@@ -11,18 +11,12 @@
 #![tactic(auto)]
 
 mod answering;
-mod fault_json;
 mod in_place;
-mod input_kinds;
 mod jobs;
 mod judging;
 pub mod laws;
-mod naming;
-mod plan_lines;
-mod planning;
 
 pub use answering::answer;
-pub use fault_json::job_fault_json;
 pub use gen_ends::{JobEnd, JobFault, Output, deliver, job_fault_line, read_all};
 pub use gen_judging::{accuse_engine, audit_engine, draw_engine, evidence_engine};
 pub use gen_making::{
@@ -30,7 +24,5 @@ pub use gen_making::{
 };
 pub use gen_telling::decide_engine;
 pub use in_place::{Answered, answer_in_place};
-pub use input_kinds::{InputKind, input_kind};
 pub use jobs::do_job;
 pub use judging::judge_engine;
-pub use naming::name_file;

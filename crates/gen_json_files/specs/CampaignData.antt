@@ -7,7 +7,7 @@ use Rattle.gen_convict.specs.Evidence.{Accusation, told_of}
 use Rattle.gen_audit.specs.Bundle.{Bundle}
 use Rattle.gen_audit.specs.declared.verdicts.Judgement.{Judgement}
 use Rattle.gen_campaign.specs.Campaign.{CampaignBundle}
-use Rattle.gen_campaign.specs.CampaignVerdictText.{place_of}
+use Rattle.gen_campaign.specs.CampaignPlaces.{place_of}
 use Rattle.gen_json.specs.ConvictionData.{conviction_data}
 use Rattle.gen_json.specs.JsonData.{whole, list_of, fields, json_version, members}
 use Rattle.gen_json.specs.OriginData.{Origin, with_origin}

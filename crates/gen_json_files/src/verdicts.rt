@@ -3,7 +3,7 @@ ghost use Rattle.std.specs.Prelude.{◌≡◌, IfOk, map};
 ghost use Rattle.serde_json.specs.Data.{array};
 ghost use Rattle.serde_json.specs.View.{items_of, view};
 ghost use Rattle.gen_convict.specs.Evidence.{told_of};
-ghost use Rattle.gen_campaign.specs.CampaignVerdictText.{place_of};
+ghost use Rattle.gen_campaign.specs.CampaignPlaces.{place_of};
 ghost use Rattle.gen_json_files.specs.CampaignData.{across_data, campaign_data, runs_data};
 ghost use Rattle.gen_json.specs.Line.{ReadsAs, json_line};
 

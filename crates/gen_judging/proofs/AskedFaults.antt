@@ -11,7 +11,7 @@ use Rattle.gen_campaign.specs.CampaignSpelling.{campaign_spelling}
 use Rattle.gen_convict.specs.EvidenceReading.{IsWhole}
 use Rattle.gen_convict.specs.EvidenceSpelling.{HeaderAndEvidence, whole_spelling}
 use Rattle.gen_asked.specs.AskedRuns.{AreAsked}
-use Rattle.gen_show.specs.Runs.{run_ids}
+use Rattle.gen_campaign.specs.FileRuns.{run_ids}
 use Rattle.gen_judging.specs.Asking.{IsHeldFault, IsOfOther, IsShowFault, OthersAsked}
 use Rattle.gen_judging.specs.Audit.{ByWorkers}
 use Rattle.gen_ends.specs.Failing.{audit_failure}

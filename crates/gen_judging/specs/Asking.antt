@@ -14,10 +14,10 @@ use Rattle.gen_campaign.specs.CampaignReading.{whole_campaign}
 use Rattle.gen_campaign.specs.CampaignSpelling.{campaign_spelling}
 use Rattle.gen_campaign.specs.declared.campaign_fault.CampaignFault.{CampaignFault}
 use Rattle.gen_json.specs.OriginData.{Origin}
-use Rattle.gen_show.specs.HeaderText.{equal_roots_lines}
+use Rattle.gen_file.specs.EqualRootsText.{equal_roots_lines}
 use Rattle.gen_judging.specs.Accusing.{AccusesRuns}
 use Rattle.gen_asked.specs.AskedRuns.{AreAsked}
-use Rattle.gen_show.specs.Runs.{run_ids}
+use Rattle.gen_campaign.specs.FileRuns.{run_ids}
 use Rattle.gen_judging.specs.Audit.{AuditsShown, IsAuditFault}
 use Rattle.gen_judging.specs.Checking.{IsEvidenceFault, Tells}
 use Rattle.gen_judging.specs.Drawing.{DrawsForm}

@@ -14,7 +14,7 @@ use Rattle.gen_report.specs.VerdictText.{verdict_text}
 use Rattle.gen_campaign.specs.Campaign.{CampaignBundle}
 use Rattle.gen_campaign.specs.CampaignReading.{whole_campaign}
 use Rattle.gen_campaign.specs.Judged.{AreJudged, shown_bundles}
-use Rattle.gen_campaign.specs.CampaignVerdictText.{campaign_text, several_text}
+use Rattle.gen_verdicts.specs.CampaignVerdictText.{campaign_text, several_text}
 use Rattle.gen_json_files.specs.CampaignData.{campaign_data, several_data}
 use Rattle.gen_json.specs.Line.{json_line}
 use Rattle.gen_json.specs.OriginData.{Origin}

@@ -10,11 +10,11 @@ use Rattle.gen_facts.specs.Facts.{across_fact, conviction_fact, equal_roots_fact
 use Rattle.gen_facts.specs.declared.fact.Fact.{Fact}
 use Rattle.gen_campaign.specs.Campaign.{CampaignBundle, IsCampaign}
 use Rattle.gen_campaign.specs.CampaignSpelling.{campaign_spelling}
-use Rattle.gen_campaign.specs.CampaignVerdictText.{place_of}
+use Rattle.gen_campaign.specs.CampaignPlaces.{place_of}
 use Rattle.gen_campaign.specs.Judged.{AreJudged, shown_bundles}
 use Rattle.gen_asked.specs.AskedRuns.{AreAsked}
 use Rattle.gen_asked.specs.declared.asked.Asked.{Asked}
-use Rattle.gen_show.specs.Runs.{run_ids}
+use Rattle.gen_campaign.specs.FileRuns.{run_ids}
 use Rattle.gen_judging.specs.Asking.{shared_roots}
 use Rattle.gen_judging.specs.Holding.{IsHeldAs}
 

@@ -14,14 +14,13 @@ use crate::origins::origin_in;
 use crate::run_ids::check_runs;
 use gen_asked::{Asked, Form};
 use gen_audit::{Bundle, Judgement, Verdict, WorkerCount};
-use gen_campaign::{
-    CampaignBundle, CampaignVerdict, audit_campaign, print_campaign, read_taken_campaign,
-};
+use gen_campaign::{CampaignBundle, CampaignVerdict, audit_campaign, read_taken_campaign};
 use gen_ends::{JobEnd, JobFault, Open, Output, deliver, read_all};
 use gen_json::Origin;
 use gen_json_files::print_campaign_json;
 use gen_json_parts::print_verdict_json;
 use gen_report::print_verdict;
+use gen_verdicts::print_campaign;
 use std::alloc::{AllocError, Global};
 use std::io::{Read, Write};
 use std::sync::Wait;

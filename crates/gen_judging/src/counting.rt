@@ -4,10 +4,10 @@ ghost use Rattle.gen_judging.specs.Asking.{counted_text, counts_as_no, has_few, 
 
 use gen_audit::Bundle;
 use gen_ends::Output;
+use gen_file::push_equal_roots;
 use gen_json::Origin;
 use gen_net::Net;
 use gen_plan::equal_roots;
-use gen_show::push_equal_roots;
 use gen_types::{GeneralNo, GeneralSet};
 use std::alloc::{AllocError, Global};
 

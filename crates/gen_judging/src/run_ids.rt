@@ -2,12 +2,12 @@
 ghost use Rattle.std.specs.Prelude.{IfErr, IfOk};
 ghost use Rattle.gen_asked.specs.AskedRuns.{AreAsked};
 ghost use Rattle.gen_judging.specs.Asking.{OthersAsked};
-ghost use Rattle.gen_show.specs.Runs.{run_ids};
+ghost use Rattle.gen_campaign.specs.FileRuns.{run_ids};
 
 use gen_asked::AskedRuns;
 use gen_audit::Bundle;
+use gen_campaign::run_ids;
 use gen_ends::JobFault;
-use gen_show::run_ids;
 use std::alloc::Global;
 
 /// Refuses bundles of other runs than those that are asked for.

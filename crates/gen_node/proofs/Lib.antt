@@ -10,5 +10,6 @@ pub mod Keeping
 pub mod LongestFrames
 pub mod Scenarios
 pub mod ShortFrames
+pub mod NextRuns
 pub mod Runs
 pub mod Steps

@@ -1,4 +1,5 @@
 pub mod BundleBytes
+pub mod Clock
 pub mod FaultNumber
 pub mod Frame
 pub mod FrameReading

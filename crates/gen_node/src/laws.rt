@@ -1,6 +1,9 @@
 //! Laws of nodes. Each is a function with an empty body whose contract is the law: a caller that calls it knows the
 //! law.
+ghost use Rattle.std.specs.Prelude.{ℕ, ℤ, ◌≡◌, ◌<◌, List, Option, AllPairs};
 ghost use Rattle.gen_types.specs.Spelled.{HasOneSpelling};
+ghost use Rattle.gen_node.specs.declared.clock.Timetable.{Timetable};
+ghost use Rattle.gen_node.specs.Clock.{AreBegun, IsAbove, IsNext};
 ghost use Rattle.gen_node.specs.Frame.{IsFrame, frame_spelling};
 ghost use Rattle.gen_node.specs.NodeLaws.{NodesAreAccepted, NodesBegin, NodesDecide, NodesDecisions, NodesEnd};
 ghost use Rattle.gen_node.specs.NodeLaws.{NodesExist, NodesHear, NodesLog, NodesLogs, NodesRun, NodesSend, NodesStart};
@@ -44,4 +47,15 @@ pub fn nodes_make_the_run()
 /// gives between all. Its bytes are read as that bundle, and its verdict is the commander's order, on which all agree.
 pub fn nodes_are_accepted()
     ensures { NodesAreAccepted }
+{}
+
+/// The next run of a node is above its mark (`above`). Two nodes that read the same clock begin the same run next, unless
+/// one of them has begun the other's next run or a later one (`same`). A node that begins one run after another, each as
+/// the next, begins them in ascending order, and none twice, however the clock is set in between (`ascending`).
+pub fn next_runs_go_up()
+    ensures above { (t : Timetable) (now : ℤ) (mark : Option ℕ) (run : ℕ) → IsNext t now mark run → IsAbove mark run }
+    ensures same { (t : Timetable) (now : ℤ) (mark other : Option ℕ) (run next : ℕ)
+        → IsNext t now mark run → IsNext t now other next → IsAbove other run → IsAbove mark next → run ≡ next }
+    ensures ascending { (t : Timetable) (mark : Option ℕ) (clock : List ℤ) (runs : List ℕ)
+        → AreBegun t mark clock runs → AllPairs (λ a b. a < b) runs }
 {}

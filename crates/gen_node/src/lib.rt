@@ -9,9 +9,13 @@
 //! What is promised: bytes that are not the awaited frame of a neighbour are refused and change nothing. A neighbour
 //! from which nothing came in a round counts as one that sent nothing. No leaf of the ring is taken twice. What is not
 //! promised: that frames come in time, or that they come from the neighbour that the transport names.
+//!
+//! A node of a system begins one run after another. Which one comes next, a `Timetable` tells by the clock: the least
+//! number that is above the newest run that the node has begun, and whose run has not begun yet.
 #![tactic(auto)]
 
 mod bundles;
+mod clock;
 mod frame_fault;
 mod frame_reading;
 mod frame_writing;
@@ -24,6 +28,7 @@ mod nodes;
 mod stages;
 
 pub use bundles::make_bundle;
+pub use clock::{MOST_RUNS, NextRun, Timetable};
 pub use frame_fault::FrameFault;
 pub use frame_reading::{FRAME_MARK, read_frame, read_frame_head};
 pub use frames::{FrameFront, FrameHead, WireFrame};

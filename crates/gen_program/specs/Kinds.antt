@@ -3,13 +3,13 @@ use Rattle.std.specs.Prelude.{◌≡◌, ◌⊎◌, ℕ, Bool, true, false, List
 use Rattle.std.specs.declared.io.Error.{Error}
 use Rattle.std.specs.declared.io.ErrorKind.TheVariants.{OutOfMemory}
 use Rattle.std.specs.IoError.{error_kind}
-use Rattle.gen_jobs.specs.InputKinds.{kind_of}
+use Rattle.gen_telling.specs.InputKinds.{kind_of}
 use Rattle.gen_ends.specs.declared.ends.JobFault.{JobFault}
 use Rattle.gen_ends.specs.declared.ends.JobFault.TheVariants as faults
 use Rattle.gen_asked.specs.declared.forms.Form.{Form}
 use Rattle.gen_asked.specs.declared.forms.Form.TheVariants as forms
-use Rattle.gen_jobs.specs.declared.input_kinds.InputKind.{InputKind}
-use Rattle.gen_jobs.specs.declared.input_kinds.InputKind.TheVariants as kinds
+use Rattle.gen_telling.specs.declared.input_kinds.InputKind.{InputKind}
+use Rattle.gen_telling.specs.declared.input_kinds.InputKind.TheVariants as kinds
 use Rattle.gen_asked.specs.declared.jobs.Job.{Job}
 use Rattle.gen_asked.specs.declared.jobs.Job.TheVariants as jobs
 use Rattle.gen_program.specs.declared.details.Detail.{Detail}

@@ -1,3 +1,4 @@
+pub mod Admitting
 pub mod Kinds
 pub mod Refusal
 pub mod Sources

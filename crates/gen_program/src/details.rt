@@ -4,7 +4,8 @@ ghost use Rattle.gen_program.specs.Kinds.{IsDetail, IsRefused, TellsRead, TellsW
 
 use crate::kinds::other_kind;
 use gen_asked::Job;
-use gen_jobs::{InputKind, JobFault};
+use gen_jobs::JobFault;
+use gen_telling::InputKind;
 use std::fmt::{Display, Formatter};
 use std::{fmt, io};
 

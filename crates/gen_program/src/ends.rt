@@ -7,7 +7,8 @@ use crate::details::{Detail, Seen, detail_of};
 use crate::kinds::answers_in_json;
 use crate::reading::Failure;
 use gen_asked::Job;
-use gen_jobs::{JobEnd, JobFault, Output, deliver, input_kind, job_fault_json};
+use gen_jobs::{JobEnd, JobFault, Output, deliver};
+use gen_telling::{input_kind, job_fault_json};
 use std::io;
 
 /// Writes the line of a job's fault to standard error, if the job failed, and what is told of it behind the line. Returns

@@ -3,7 +3,7 @@ ghost use Rattle.std.specs.Prelude.{◌≡◌};
 ghost use Rattle.gen_program.specs.Kinds as specified;
 
 use gen_asked::{Form, Job};
-use gen_jobs::{InputKind, input_kind};
+use gen_telling::{InputKind, input_kind};
 
 /// Whether an input of this kind is a file that is shown.
 fn is_shown(kind: InputKind) -> bool

@@ -5,12 +5,14 @@
 //! without proving this crate once more.
 #![tactic(auto)]
 
+mod admitting;
 mod built;
 mod details;
 mod ends;
 mod kinds;
 mod naming;
 mod program;
+mod progress;
 mod reading;
 mod sources;
 mod systems;

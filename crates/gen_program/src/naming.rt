@@ -2,8 +2,9 @@
 ghost use Rattle.gen_asked.specs.Ranges.{IsInRange};
 
 use gen_asked::Job;
-use gen_jobs::{JobEnd, JobFault, Output, answer_in_place, deliver, do_job, name_file};
+use gen_jobs::{JobEnd, JobFault, Output, answer_in_place, deliver, do_job};
 use gen_net::Version;
+use gen_telling::name_file;
 use std::alloc::{AllocError, Global};
 use std::io::{Read, Write};
 use std::sync::Wait;

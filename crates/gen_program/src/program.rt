@@ -6,6 +6,7 @@ ghost use Rattle.gen_ends.specs.declared.ends.JobEnd.{JobEnd};
 ghost use Rattle.gen_program.specs.Refusal.{IsStatus, Refuses};
 ghost use Rattle.gen_program.specs.Sources.{writes_bytes};
 
+use crate::admitting::finish_admitted;
 use crate::built::Built;
 use crate::details::{Detail, STANDARD_INPUT, Seen};
 use crate::ends::{end_with, end_written, fail_with, finish_seen, finish_unopened};
@@ -19,8 +20,8 @@ use clap::error::ErrorKind;
 use gen_asked::{Job, Telling};
 use gen_jobs::{JobEnd, JobFault, deliver, deliver_bundle, do_job};
 use gen_words::{
-    Several, WordsFault, fault_line, given_value, read_request, read_several, read_systems,
-    show_usage,
+    Request, Several, WordsFault, fault_line, given_value, read_admitting, read_request,
+    read_several, read_systems, show_usage,
 };
 use std::alloc::{AllocError, Global};
 use std::fs::File;
@@ -92,13 +93,27 @@ fn answer_request<
     ensures { IsStatus result }
 {
     match read_request(rt.alloc(), words) {
-        Ok(request) => finish(rt, &request.job, request.file, request.prints_runs),
+        Ok(request) => finish_request(rt, words, &request, built),
         Err(fault) => {
             if words.len() < 2 {
                 show_usage(rt);
             }
             refuse(rt, &fault, given_value(rt.alloc(), words, &fault), built)
         }
+    }
+}
+
+/// Does what words ask for, of runs that an admission admits if they name one, and returns the exit status.
+fn finish_request<
+    R: Files + Terminals + AllocGlobal + Input + Print + Eprint + Threads + Wait + Sync,
+>(rt: &R, words: &[&str], request: &Request<'_>, built: &Built<'_>) -> u8
+    requires { IsInRange request.now.job }
+    ensures { IsStatus result }
+{
+    match read_admitting(rt.alloc(), words) {
+        Ok(Some(admitting)) => finish_admitted(rt, &request.job, request.file, &admitting),
+        Ok(None) => finish(rt, &request.job, request.file, request.prints_runs),
+        Err(fault) => refuse(rt, &fault, None, built),
     }
 }
 
@@ -189,7 +204,7 @@ fn finish<R: Files + Terminals + AllocGlobal + Input + Print + Eprint + Threads 
 }
 
 /// Returns whether a job writes bytes, and no text.
-fn writes_bytes(job: &Job) -> bool
+pub(crate) fn writes_bytes(job: &Job) -> bool
     ensures { result ≡ writes_bytes job.now }
 {
     match job {

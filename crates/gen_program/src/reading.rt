@@ -8,10 +8,9 @@ use crate::terminals::Terminals;
 use crate::watching::WatchedReader;
 use gen_audit::BundleFault;
 use gen_campaign::CampaignFault;
-use gen_jobs::{
-    BundleText, InputKind, JobFault, Output, answer_evidence, input_kind, join_in_pieces, read_all,
-};
+use gen_jobs::{BundleText, JobFault, Output, answer_evidence, join_in_pieces, read_all};
 use gen_local::Exhibit;
+use gen_telling::{InputKind, input_kind};
 use gen_types::{GeneralNo, GeneralSet};
 use std::alloc::{AllocError, Global};
 use std::fs::File;

@@ -1,18 +1,21 @@
 //! The commands of identities and systems: from what their words ask for to the exit status.
 ghost use Rattle.gen_program.specs.Refusal.{IsStatus};
 
+use crate::details::Detail;
 use crate::ends::{end_written, fail_with};
 use crate::program::refuse_terminal;
+use crate::progress::ProgressLine;
 use crate::reading::{Failure, read_file};
 use crate::terminals::Terminals;
 use crate::watching::WatchedWriter;
+use gen_audit::WorkerCount;
 use gen_enrolling::{
-    EnrollFault, Made, NodeRoots, admission_of_files, enroll, header_admitted, identity_text,
-    system_of_text,
+    EnrollError, EnrollFault, Enrolment, Made, NodeRoots, admission_of_files, enroll,
+    header_admitted, identity_text, system_of_text,
 };
 use gen_jobs::{JobEnd, JobFault, Output, deliver};
 use gen_system::Proposer;
-use gen_types::{GeneralNo, ReadError};
+use gen_types::{GeneralNo, ReadError, TreeHeight};
 use gen_words::Systems;
 use std::io;
 use std::rt::Files;
@@ -48,7 +51,7 @@ fn read_roots_of<'a, R: Files + Terminals + AllocGlobal + Input + Eprint>(
     Ok(all)
 }
 
-/// What a command writes, and the id of the system that it prints, if it does.
+/// What a command writes behind what it wrote as it worked, and the id of the system that it prints, if it does.
 #[derive(Drop)]
 struct Told {
     bytes: Vec<u8>,
@@ -65,7 +68,7 @@ fn proposer_of(turns: bool) -> Proposer {
 }
 
 /// What a command writes, or the rule that an input breaks.
-type Answer = Result<Told, ReadError<EnrollFault>>;
+type Answer = Result<Told, EnrollError>;
 
 /// Returns the answer of a command that tells no system.
 fn told_alone(bytes: Result<Vec<u8>, ReadError<EnrollFault>>) -> Answer {
@@ -82,8 +85,51 @@ fn told_of_system(made: Result<Made, ReadError<EnrollFault>>, prints_id: bool) -
     Ok(Told { bytes, id })
 }
 
-/// Returns the answer of a command, or why a file was not read.
-fn answer_of<'a, R: Files + Terminals + AllocGlobal + Input + Eprint + Threads + Sync>(
+/// What is asked of `enroll`, beside the files.
+#[derive(Drop)]
+struct Sets {
+    levels: u8,
+    height: TreeHeight,
+    workers: WorkerCount,
+}
+
+/// Writes the roots of a secret, or what is missing behind those of a file, and tells a terminal how far it has come. Returns
+/// the answer, which has nothing more to write, or why a file was not read, or the roots were not written.
+fn enroll_files<'a, R: Files + Terminals + AllocGlobal + Input + Print + Eprint + Threads + Sync>(
+    rt: &R,
+    sets: &Sets,
+    resume: Option<&'a str>,
+    secret: Option<&'a str>,
+) -> Result<Answer, Failure<'a>> {
+    let secret = read_input(rt, secret)?;
+    let front = match resume {
+        Some(file) => read_file(rt, file)?,
+        None => Vec::new(rt.alloc()),
+    };
+    let asked = Enrolment {
+        secret: &secret,
+        height: sets.height,
+        levels: sets.levels,
+        workers: sets.workers,
+        front: &front,
+    };
+    let mut output = io::writer(rt);
+    let mut writer = WatchedWriter::new(&mut output);
+    let mut line = ProgressLine::new(rt, rt.tells_terminal());
+    let end = enroll(rt, rt.alloc(), &asked, &mut writer, &mut line);
+    line.end();
+    match end {
+        Ok(()) => Ok(told_alone(Ok(Vec::new(rt.alloc())))),
+        Err(EnrollError::Write) => Err(Failure {
+            fault: JobFault::Write,
+            detail: Some(Detail::of_write(writer.failure)),
+        }),
+        Err(error) => Ok(Err(error)),
+    }
+}
+
+/// Returns the answer of a command, or why a file was not read or not written.
+fn answer_of<'a, R: Files + Terminals + AllocGlobal + Input + Print + Eprint + Threads + Sync>(
     rt: &R,
     systems: &Systems<'a>,
 ) -> Result<Answer, Failure<'a>> {
@@ -93,11 +139,15 @@ fn answer_of<'a, R: Files + Terminals + AllocGlobal + Input + Eprint + Threads +
             levels,
             height,
             workers,
+            resume,
             secret,
         } => {
-            let secret = read_input(rt, *secret)?;
-            let roots = enroll(rt, alloc, &secret, *height, *levels, *workers);
-            Ok(told_alone(roots))
+            let sets = Sets {
+                levels: *levels,
+                height: *height,
+                workers: *workers,
+            };
+            enroll_files(rt, &sets, *resume, *secret)
         }
         Systems::Identity { roots } => {
             let roots = read_input(rt, *roots)?;
@@ -147,6 +197,20 @@ fn say_id<R: AllocGlobal + Eprint>(rt: &R, id: &[u8; 32]) {
     }
 }
 
+/// Tells why a command has no answer, and returns the exit status.
+pub(crate) fn fail_enrolling<R: Eprint>(rt: &R, error: EnrollError) -> u8
+    ensures { IsStatus result }
+{
+    match error {
+        EnrollError::Memory => fail_with(rt, &Failure::of_fault(JobFault::Memory)),
+        EnrollError::Write => fail_with(rt, &Failure::of_fault(JobFault::Write)),
+        EnrollError::Fault(_) | EnrollError::OtherRoots => {
+            let _ = eprintln!(rt; "{error}");
+            FAULT_STATUS
+        }
+    }
+}
+
 /// Writes what a command of identities and systems tells, and returns the exit status. If bytes would go to a terminal, it
 /// is that for words.
 pub(crate) fn finish_systems<
@@ -169,11 +233,7 @@ pub(crate) fn finish_systems<
             }
             end_written(rt, end, writer.failure)
         }
-        Ok(Err(ReadError::Fault(fault))) => {
-            let _ = eprintln!(rt; "{fault}");
-            FAULT_STATUS
-        }
-        Ok(Err(ReadError::Memory)) => fail_with(rt, &Failure::of_fault(JobFault::Memory)),
+        Ok(Err(error)) => fail_enrolling(rt, error),
         Err(failure) => fail_with(rt, &failure),
     }
 }

@@ -9,6 +9,9 @@ pub trait Terminals {
 
     /// Returns whether standard output is a terminal.
     fn writes_terminal(&self) -> bool;
+
+    /// Returns whether standard error is a terminal.
+    fn tells_terminal(&self) -> bool;
 }
 
 impl Terminals for HostRuntime {
@@ -18,5 +21,9 @@ impl Terminals for HostRuntime {
 
     fn writes_terminal(&self) -> bool {
         self.stdout().is_terminal()
+    }
+
+    fn tells_terminal(&self) -> bool {
+        self.stderr().is_terminal()
     }
 }

@@ -5,7 +5,7 @@ use Rattle.std.specs.List.{flat_map}
 use Rattle.gen_net.specs.Header.{RunHeader}
 use Rattle.gen_report.specs.Decisions.{decision_line}
 use Rattle.gen_report.specs.VerdictText.{run_line}
-use Rattle.gen_show.specs.Words.{listed}
+use Rattle.gen_file.specs.Lists.{listed}
 use Rattle.gen_receipting.specs.declared.told.Told.{Told}
 use Rattle.gen_receipting.specs.declared.told.ToldReceipt.{ToldReceipt}
 

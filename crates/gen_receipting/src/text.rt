@@ -4,9 +4,9 @@ ghost use Rattle.std.specs.List.{flat_map};
 ghost use Rattle.gen_receipting.specs.ToldText.{convicted_line, failing_line, opening_lines, receipt_line, told_text};
 
 use crate::told::{Told, ToldReceipt};
+use gen_file::push_members;
 use gen_net::Header;
 use gen_report::print_decisions;
-use gen_show::push_members;
 use gen_types::{GeneralNo, GeneralSet, OrderSet};
 use std::alloc::{AllocError, Global};
 

@@ -8,7 +8,7 @@ use Rattle.gen_audit.specs.Bundle.{Bundle}
 use Rattle.gen_file.specs.Parts.{bundle_front_length, bundle_length, exhibit_front_length, exhibit_length}
 use Rattle.gen_show.specs.HeaderText.{header_lines}
 use Rattle.gen_show.specs.LogText.{log_lines}
-use Rattle.gen_show.specs.Words.{listed}
+use Rattle.gen_file.specs.Lists.{listed}
 
 -- the line of the generals that are held for faulty, and that of a walk
 abbrev pub faulty_line : List ℕ → List ℕ

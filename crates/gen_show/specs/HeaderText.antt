@@ -8,6 +8,7 @@ use Rattle.gen_net.specs.Network.{Network}
 use Rattle.gen_net.specs.Header.{RunHeader, run_id_of}
 use Rattle.gen_net.specs.Version.{slot_in}
 use Rattle.gen_plan.specs.EqualRoots.{equal_roots}
+use Rattle.gen_file.specs.EqualRootsText.{equal_roots_lines}
 use Rattle.gen_file.specs.Kinds.{version_number}
 
 -- the lines of the name of the format, with its version and the slot of the run, and of the run id
@@ -36,13 +37,6 @@ root_line general root =
 abbrev pub root_lines : ℕ → List (List ℕ) → List ℕ
 root_lines general [] = []
 root_lines general (root ∷ roots) = root_line general root ++ root_lines (general + 1) roots
-
--- the line of two generals with the same root, and the lines of such pairs
-unfoldable pub equal_roots_line : ℕ × ℕ → List ℕ
-equal_roots_line pair = codes "equal roots " ++ decimal pair.0 ++ codes " " ++ decimal pair.1 ++ codes "\n"
-
-abbrev pub equal_roots_lines : List (ℕ × ℕ) → List ℕ
-equal_roots_lines pairs = flat_map equal_roots_line pairs
 
 -- the lines of a header behind a format's name: format, run id, numbers, edges, roots, and pairs of equal
 -- roots

@@ -4,6 +4,4 @@ pub mod EvidenceText
 pub mod HeaderText
 pub mod LogText
 pub mod Offsets
-pub mod Runs
 pub mod Showing
-pub mod Words

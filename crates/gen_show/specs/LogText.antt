@@ -12,7 +12,7 @@ use Rattle.gen_log.specs.Log.{RunLog}
 use Rattle.gen_log.specs.LogReading.{log_of}
 use Rattle.gen_file.specs.FaultText.{log_fault_name}
 use Rattle.gen_file.specs.Parts.{log_front_length}
-use Rattle.gen_show.specs.Words.{listed}
+use Rattle.gen_file.specs.Lists.{listed}
 
 -- an order of one's own, or a minus
 abbrev pub own_said : Option ℕ → List ℕ

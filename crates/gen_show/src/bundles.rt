@@ -5,9 +5,8 @@ ghost use Rattle.gen_show.specs.BundleText.{bundle_lines, exhibit_lines, run_lin
 
 use crate::headers::push_header;
 use crate::logs::push_log;
-use crate::words::{push_generals, push_members};
 use gen_audit::Bundle;
-use gen_file::{EXHIBIT_FRONT, bundle_front_length, exhibit_bytes};
+use gen_file::{EXHIBIT_FRONT, bundle_front_length, exhibit_bytes, push_generals, push_members};
 use gen_local::Exhibit;
 use gen_net::Header;
 use std::alloc::{AllocError, Global};

@@ -1,9 +1,9 @@
 //! Headers as lines.
 ghost use Rattle.std.specs.Prelude.{◌≡◌, ◌++◌, OnOk, string_bytes};
 ghost use Rattle.std.specs.List.{flat_map};
-ghost use Rattle.gen_show.specs.HeaderText.{edge_line, equal_roots_line, equal_roots_lines, format_lines, header_lines, number_lines, root_lines};
+ghost use Rattle.gen_show.specs.HeaderText.{edge_line, format_lines, header_lines, number_lines, root_lines};
 
-use gen_file::version_number;
+use gen_file::{push_equal_roots, version_number};
 use gen_net::{Header, Net};
 use gen_plan::equal_roots;
 use gen_types::GeneralNo;
@@ -67,35 +67,6 @@ fn push_roots(alloc: Global, out: &mut String, roots: &[[u8; 32]]) -> Result<(),
     for general in 0..roots.len() {
         let digits = hex::encode(alloc, roots[general])?;
         write!(out, "root {general} {digits}\n")?;
-    }
-    Ok(())
-}
-
-/// Appends the line of two generals that have the same root.
-#[tactic(auto, unfolding(crate::specs::HeaderText::equal_roots_line))]
-fn push_pair(out: &mut String, pair: &(GeneralNo, GeneralNo)) -> Result<(), AllocError>
-    ensures { OnOk result
-        (string_bytes out.new ≡ string_bytes out.old ++ equal_roots_line pair.now) }
-{
-    let first = pair.0.get();
-    let second = pair.1.get();
-    write!(out, "equal roots {first} {second}\n")
-}
-
-/// Appends a line for each of these pairs of generals that have the same root.
-///
-/// # Errors
-///
-/// `AllocError` where memory is refused.
-pub fn push_equal_roots(
-    out: &mut String,
-    pairs: &[(GeneralNo, GeneralNo)],
-) -> Result<(), AllocError>
-    ensures { OnOk result
-        (string_bytes out.new ≡ string_bytes out.old ++ equal_roots_lines pairs.now) }
-{
-    for pair in pairs {
-        push_pair(out, pair)?;
     }
     Ok(())
 }

@@ -1,7 +1,7 @@
 //! What a file is, as lines of text: a bundle, the bundles of a campaign's runs, evidence, or a header alone.
 //!
 //! Each line says one fact, and its first word is the kind of the line. Where something stands in the file, the line has
-//! the byte at which it begins. `file_runs` returns the ids of the runs that a file is of.
+//! the byte at which it begins.
 //!
 //! What is promised: the text, line for line, and whether the bytes are a whole file of their kind. What is not
 //! promised: that what a file says is true. Of evidence the text says whether it holds; signatures of logs are not
@@ -15,11 +15,6 @@ mod evidence;
 mod headers;
 pub mod laws;
 mod logs;
-mod runs;
 mod showing;
-mod words;
 
-pub use headers::push_equal_roots;
-pub use runs::{file_runs, run_ids};
 pub use showing::show;
-pub use words::push_members;

@@ -1,7 +1,7 @@
 -- What the job show makes of its input, if runs are asked for.
 use Rattle.std.specs.Prelude.{ℕ, Bool, List, Option, Some, None}
 use Rattle.gen_file.specs.Kinds.{file_kind}
-use Rattle.gen_show.specs.Runs.{runs_as}
+use Rattle.gen_campaign.specs.FileRuns.{runs_as}
 use Rattle.gen_asked.specs.AskedRuns.{AreAsked}
 use Rattle.gen_telling.specs.Telling.{TellsFile}
 use Rattle.gen_asked.specs.declared.forms.Form.{Form}

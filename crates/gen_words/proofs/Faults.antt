@@ -1,9 +1,11 @@
 -- What the command line tells of words that ask for a job.
-use Rattle.std.proofs.Common.{◌≡◌, ℕ, Bor, Bool, List, [], ◌∷◌, Option, Some, None, true, false, refl, ap, codes, option_map, option_and_then, subst, sym, if◌then◌else◌, ◌∙◌, inl, inr}
+use Rattle.std.proofs.Common.{◌≡◌, ◌&&◌, ℕ, Bor, Bool, List, [], ◌∷◌, Option, Some, None, true, false, refl, ap, codes, option_map, option_and_then, subst, sym, if◌then◌else◌, ◌∙◌, inl, inr}
 use Rattle.std.specs.Prelude.{IsSome}
 use Rattle.clap.specs.Words.{HasKind, IsAmong, Kinds, Row, Text, fault_of, first_of, is_simple, is_simple_and_free, kind_of, subcommand_of}
 use Rattle.clap.specs.declared.error.Error.{Error}
 use Rattle.clap.specs.declared.error.kind.ErrorKind.TheVariants.{OutOfMemory}
+use Rattle.clap.specs.Faults.{is_free_app}
+use Rattle.clap.specs.Simple.{built}
 use Rattle.clap.proofs.OnLiterals.{clap_on_literals}
 use Rattle.gen_asked.specs.declared.jobs.Job.{Job}
 use Rattle.gen_words.specs.declared.words.WordsFault.{WordsFault}
@@ -16,13 +18,16 @@ use Rattle.gen_words.specs.Commands.{Gives, IsGiven, IsGivenBy, choices_in, job_
 use Rattle.gen_words.specs.Jobs.{choices_told, faulty_asked, form_asked, height_asked, version_asked, is_set, job_named, job_said, number_between, runs_asked}
 use Rattle.gen_words.specs.Tool.{Asks, asked, fault_from, refusal, without_fault, IsFaultOf, IsRefused}
 
-pub tool_is_simple : is_simple tool ≡ true
-unfolding clap_on_literals
-tool_is_simple = refl
-
 pub tool_is_free : is_simple_and_free tool ≡ true
 unfolding clap_on_literals
 tool_is_free = refl
+
+first_holds : (a b : Bool) → (a && b) ≡ true → a ≡ true
+first_holds true b both = refl
+first_holds false b both = absurd cc
+
+pub tool_is_simple : is_simple tool ≡ true
+tool_is_simple = first_holds (is_simple tool) (is_free_app (built tool)) tool_is_free
 
 -- words that ask for a job have no fault
 pub without : (kinds : Kinds) (job : Option Job) → IsSome (without_fault kinds job) → kinds ≡ []

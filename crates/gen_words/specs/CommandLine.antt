@@ -31,6 +31,14 @@ general = record (option_named (codes "general")) { required = true }
 abbrev pub asked : Rule
 asked = option_named (codes "run")
 
+-- the file of an admission, of whose set the runs of the input must be
+abbrev pub admission_file : Rule
+admission_file = option_named (codes "admission")
+
+-- the id of the system that the admission must be of; any, if the option is absent
+abbrev pub system_id : Rule
+system_id = option_named (codes "system")
+
 -- the generals that are held for faulty in place of those that the input lists
 abbrev pub faulty : Rule
 faulty = option_named (codes "faulty")
@@ -62,6 +70,11 @@ print_run = flag_named (codes "print-run")
 -- how many levels the tree of an identity has; the option is required
 abbrev pub levels : Rule
 levels = record (option_named (codes "levels")) { required = true }
+
+-- the file of the beginning of roots, which are made from there on; from the first one on, if the option is
+-- absent
+abbrev pub resume : Rule
+resume = option_named (codes "resume")
 
 -- the number of a run of a system; the option is required
 abbrev pub run_number : Rule
@@ -99,9 +112,13 @@ log = record (word_named (codes "log")) { required = true }
 abbrev pub logs : Rule
 logs = record (word_named (codes "log")) { action = Some Append }
 
+-- a command that takes the runs that are asked for, by their ids or by an admission, too
+abbrev pub with_asked : App → App
+with_asked command = with_rule (with_rule (with_rule command asked) admission_file) system_id
+
 -- a command that takes a number of workers, runs and generals, too
 abbrev pub with_asking : App → App
-with_asking command = with_rule (with_rule (with_rule command workers) asked) faulty
+with_asking command = with_rule (with_asked (with_rule command workers)) faulty
 
 -- a command whose answer is a verdict, of a file
 abbrev pub with_verdict : App → App
@@ -128,19 +145,19 @@ draw = with_rule (with_asking (new_app (codes "draw"))) file
 
 abbrev pub accuse : App
 accuse =
-    with_rule (with_rule (with_rule (with_rule (new_app (codes "accuse")) general) asked) of_receipts) file
+    with_rule (with_rule (with_asked (with_rule (new_app (codes "accuse")) general)) of_receipts) file
 
 abbrev pub evidence : App
-evidence = with_rule (with_rule (with_rule (new_app (codes "evidence")) asked) json) file
+evidence = with_rule (with_rule (with_asked (new_app (codes "evidence"))) json) file
 
 abbrev pub receipt : App
-receipt = with_rule (with_rule (with_rule (new_app (codes "receipt")) general) asked) file
+receipt = with_rule (with_asked (with_rule (new_app (codes "receipt")) general)) file
 
 abbrev pub receipts : App
-receipts = with_rule (with_rule (with_rule (new_app (codes "receipts")) asked) json) file
+receipts = with_rule (with_rule (with_asked (new_app (codes "receipts"))) json) file
 
 abbrev pub show : App
-show = with_rule (with_rule (with_rule (new_app (codes "show")) asked) json) file
+show = with_rule (with_rule (with_asked (new_app (codes "show"))) json) file
 
 abbrev pub root : App
 root = with_rule (with_rule (new_app (codes "root")) tall) file
@@ -158,7 +175,9 @@ abbrev pub answer : App
 answer = with_rule (with_rule (new_app (codes "answer")) first_file) log
 
 abbrev pub enroll : App
-enroll = with_rule (with_rule (with_rule (with_rule (new_app (codes "enroll")) levels) tall) workers) file
+enroll =
+    with_rule (with_rule
+    (with_rule (with_rule (with_rule (new_app (codes "enroll")) levels) tall) workers) resume) file
 
 abbrev pub identity : App
 identity = with_rule (new_app (codes "identity")) file

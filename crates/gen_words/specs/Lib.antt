@@ -1,3 +1,4 @@
+pub mod Admitting
 pub mod CommandLine
 pub mod Commands
 pub mod FaultLine

@@ -8,7 +8,7 @@ use Rattle.gen_asked.specs.AskedRuns.{if_digits}
 use Rattle.gen_types.specs.declared.heights.TreeHeight.{TreeHeight}
 use Rattle.gen_words.specs.CommandLine.{tool}
 use Rattle.gen_words.specs.Jobs.{height_asked, is_set, number_between}
-use Rattle.gen_words.specs.Several.{AreNamed, NamesNone, log_words, standards}
+use Rattle.gen_words.specs.Several.{AreNamed, NamesNone, is_standard, log_words, standards}
 use Rattle.gen_words.specs.declared.systems.Systems.{Systems}
 use Rattle.gen_words.specs.declared.systems.Systems.TheVariants.{Enroll, Identity, System, Admission, Admit}
 use Rattle.gen_words.specs.declared.systems.SystemsFault.TheVariants.{BadLevels, BadContext, BadNumber}
@@ -45,13 +45,22 @@ levels_in rows = number_between 0 20 (first_of (codes "levels") rows)
 abbrev pub workers_in : List Row → Option ℕ
 workers_in rows = number_between 1 16 (first_of (codes "workers") rows)
 
+-- whether two inputs are standard input: a minus stands for the first one, and a minus or no word for the
+-- second one
+abbrev pub read_both : Option Text → Option Text → Bool
+read_both None second = false
+read_both (Some first) None = is_standard first
+read_both (Some first) (Some second) = is_standard first && is_standard second
+
 -- the arguments of `enroll` say this
 pub record SaysEnroll (rows : List Row) (levels : ℕ) (height : TreeHeight) (workers : ℕ)
-    (secret : Option Text) : Type 0 where
+    (resume secret : Option Text) : Type 0 where
   pub count : levels_in rows ≡ Some levels
   pub trees : height ≡ height_asked (first_of (codes "tall") rows)
   pub helpers : workers_in rows ≡ Some workers
+  pub front : resume ≡ first_of (codes "resume") rows
   pub file : secret ≡ first_of (codes "file") rows
+  pub once : read_both resume secret ≡ false
 
 -- the arguments of `system` say this
 pub record SaysSystem (rows : List Row) (levels : ℕ) (context : List ℕ) (turns : Bool)
@@ -80,8 +89,9 @@ pub record SaysAdmit (rows : List Row) (run : ℕ) (prints_id : Bool) (admission
 
 -- a command with these arguments says this
 abbrev pub IsForSystems : Text × List Row → Systems → Type 0
-IsForSystems p (Enroll levels height workers secret) =
-    (p.0 ≡ codes "enroll") × SaysEnroll p.1 levels height workers (option_map (λ t. t.now) secret)
+IsForSystems p (Enroll levels height workers resume secret) =
+    (p.0 ≡ codes "enroll")
+    × SaysEnroll p.1 levels height workers (option_map (λ t. t.now) resume) (option_map (λ t. t.now) secret)
 IsForSystems p (Identity roots) =
     (p.0 ≡ codes "identity") × (option_map (λ t. t.now) roots ≡ first_of (codes "file") p.1)
 IsForSystems p (System levels context turns height prints_id text) =
@@ -103,6 +113,9 @@ is_of_systems name =
 abbrev pub IsEnrollFault : List Row → WordsFault → Type 0
 IsEnrollFault rows (faults.Systems BadLevels) = levels_in rows ≡ None
 IsEnrollFault rows faults.BadWorkers = IsSome (levels_in rows) × (workers_in rows ≡ None)
+IsEnrollFault rows faults.TwoStandard =
+    IsSome (levels_in rows) × (IsSome (workers_in rows)
+    × (read_both (first_of (codes "resume") rows) (first_of (codes "file") rows) ≡ true))
 IsEnrollFault rows _ = ⊥
 
 -- the arguments of `system` have this fault

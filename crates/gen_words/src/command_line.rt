@@ -25,7 +25,7 @@ Examples:
   sm_tool explain N8
 
 Each command reads FILE to its end, or standard input if there is no FILE or it is '-', and writes nothing before its
-output is whole. Bundles, campaigns, evidence, receipts, systems and admissions are bytes: redirect them.
+output is whole; enroll writes piece by piece. Bundles, campaigns, evidence, receipts, systems and admissions are bytes: redirect them.
 
 Exit status:
   0  done: the output is whole, and doesn't say no; a picture never does
@@ -104,6 +104,38 @@ fn asked_option<'a>(alloc: Global) -> Arg<'a>
     option_named(alloc, "run", "RUNID", help)
 }
 
+/// Returns the option `--admission`: the file of an admission, of whose set the runs of the input must be.
+fn admission_option<'a>(alloc: Global) -> Arg<'a>
+    ensures rule { rule_of result ≡ lines.admission_file }
+    ensures local { result.global ≡ false }
+{
+    let help = "Refuses an input of a run that this admission does not admit, and tells its number";
+    option_named(alloc, "admission", "FILE", help)
+}
+
+/// Returns the option `--system`: the id of the system that the admission must be of.
+fn system_option<'a>(alloc: Global) -> Arg<'a>
+    ensures rule { rule_of result ≡ lines.system_id }
+    ensures local { result.global ≡ false }
+{
+    let help = "Refuses an admission of another system: 64 hexadecimal digits";
+    option_named(alloc, "system", "ID", help)
+}
+
+/// Returns a command that takes the runs that are asked for, by their ids or by an admission, too.
+fn with_asked<'a>(alloc: Global, command: CommandBuilder<'a>) -> CommandBuilder<'a>
+    requires { (fields_of command.command).has_globals ≡ false }
+    ensures kept { result.refused ≡ false → command.entry.refused ≡ false }
+    ensures app { result.refused ≡ false
+        → app_of result.command ≡ lines.with_asked (app_of command.entry.command) }
+    ensures local { (fields_of result.command).has_globals ≡ false }
+{
+    command
+        .arg(asked_option(alloc))
+        .arg(admission_option(alloc))
+        .arg(system_option(alloc))
+}
+
 /// Returns the option `--faulty`: the generals that are held for faulty in place of those that the input lists.
 fn faulty_option<'a>(alloc: Global) -> Arg<'a>
     ensures rule { rule_of result ≡ lines.faulty }
@@ -146,10 +178,7 @@ fn with_asking<'a>(alloc: Global, command: CommandBuilder<'a>) -> CommandBuilder
         → app_of result.command ≡ lines.with_asking (app_of command.entry.command) }
     ensures local { (fields_of result.command).has_globals ≡ false }
 {
-    command
-        .arg(workers_option(alloc))
-        .arg(asked_option(alloc))
-        .arg(faulty_option(alloc))
+    with_asked(alloc, command.arg(workers_option(alloc))).arg(faulty_option(alloc))
 }
 
 /// Returns a command whose answer is a verdict of a file: it takes `--strict`, `--json` and FILE, too.
@@ -219,9 +248,11 @@ fn with_bundles<'a>(alloc: Global, tool: CommandBuilder<'a>) -> CommandBuilder<'
     let draw = with_asking(alloc, CommandBuilder::new(alloc, "draw", about));
     let about = "Reads a bundle or a campaign and writes the evidence against a general";
     let receipts = "Reads receipts in place of a bundle";
-    let accuse = CommandBuilder::new(alloc, "accuse", about)
-        .arg(general_option(alloc, "Who is accused, 0 to 15"))
-        .arg(asked_option(alloc))
+    let of_general = CommandBuilder::new(alloc, "accuse", about).arg(general_option(
+        alloc,
+        "Who is accused, 0 to 15",
+    ));
+    let accuse = with_asked(alloc, of_general)
         .arg(flag_named(alloc, "receipts", receipts))
         .arg(file_argument(alloc));
     tool.subcommand(with_verdict(alloc, audit))
@@ -237,25 +268,23 @@ fn with_showing<'a>(alloc: Global, tool: CommandBuilder<'a>) -> CommandBuilder<'
         → app_of result.command ≡ lines.with_show }
 {
     let about = "Reads evidence and prints whether it holds";
-    let evidence = CommandBuilder::new(alloc, "evidence", about)
-        .arg(asked_option(alloc))
+    let evidence = with_asked(alloc, CommandBuilder::new(alloc, "evidence", about))
         .arg(flag_named(alloc, "json", ONE_OBJECT))
         .arg(file_argument(alloc));
     let about =
         "Reads a bundle and writes the receipt of a general's log, which shows its decision";
-    let receipt = CommandBuilder::new(alloc, "receipt", about)
-        .arg(general_option(alloc, "Whose log it is, 0 to 15"))
-        .arg(asked_option(alloc))
-        .arg(file_argument(alloc));
+    let of_general = CommandBuilder::new(alloc, "receipt", about).arg(general_option(
+        alloc,
+        "Whose log it is, 0 to 15",
+    ));
+    let receipt = with_asked(alloc, of_general).arg(file_argument(alloc));
     let about = "Reads receipts of a run and prints which order more than m generals show";
-    let receipts = CommandBuilder::new(alloc, "receipts", about)
-        .arg(asked_option(alloc))
+    let receipts = with_asked(alloc, CommandBuilder::new(alloc, "receipts", about))
         .arg(flag_named(alloc, "json", ONE_OBJECT))
         .arg(file_argument(alloc));
     let about =
         "Reads a bundle, a campaign, evidence or a header, and prints what it says, a line for each fact";
-    let show = CommandBuilder::new(alloc, "show", about)
-        .arg(asked_option(alloc))
+    let show = with_asked(alloc, CommandBuilder::new(alloc, "show", about))
         .arg(flag_named(alloc, "json", OBJECT_IN_EACH_LINE))
         .arg(file_argument(alloc));
     tool.subcommand(evidence)
@@ -345,10 +374,13 @@ fn with_systems<'a>(alloc: Global, tool: CommandBuilder<'a>) -> CommandBuilder<'
 {
     let about = "Reads a secret of 32 bytes and writes the roots of its sets of keys";
     let tall = "Makes trees of 64 leaves, for runs of version 2";
+    let resume =
+        "Writes only what is missing behind this file, which an enroll that was stopped left";
     let enroll = CommandBuilder::new(alloc, "enroll", about)
         .arg(levels_option(alloc))
         .arg(flag_named(alloc, "tall", tall))
         .arg(workers_option(alloc))
+        .arg(option_named(alloc, "resume", "CUT", resume))
         .arg(file_argument(alloc));
     let about = "Reads the roots of sets of keys and prints the identity over them";
     let identity = CommandBuilder::new(alloc, "identity", about).arg(file_argument(alloc));

@@ -2,9 +2,11 @@
 //!
 //! `read_request` returns what words ask for: a job, and the file of its input; `read_words` returns the job alone.
 //! `read_several` returns what is asked for by the words of a command that has several files, and `read_systems` by those of
-//! a command of identities and systems. `fault_line` is the line of a fault of the words.
+//! a command of identities and systems. `read_admitting` returns the admission by which words ask for the runs of an input.
+//! `fault_line` is the line of a fault of the words.
 #![tactic(auto)]
 
+mod admitting;
 mod blaming;
 mod choices;
 mod command_builder;
@@ -13,6 +15,7 @@ mod several;
 mod systems;
 mod words;
 
+pub use admitting::{Admitting, read_admitting};
 pub use blaming::{fault_line, given_value, show_usage};
 pub use several::{Several, read_several};
 pub use systems::{Systems, SystemsFault, read_systems};

@@ -10,7 +10,7 @@ use gen_types::{GeneralNo, GeneralSet};
 use std::alloc::{AllocError, Global};
 
 /// The name that stands for standard input in the place of a file's.
-const STANDARD: &str = "-";
+pub(crate) const STANDARD: &str = "-";
 
 /// What words ask for that name several files. A minus in the place of a file stands for standard input, once at most.
 #[derive(Debug, Drop)]

@@ -1,10 +1,10 @@
 //! The words of the commands of identities and systems: `enroll`, `identity`, `system`, `admission` and `admit`.
 ghost use Rattle.std.specs.Prelude.{◌≡◌, codes, IfErr, IfOk, map, option_map};
 ghost use Rattle.clap.specs.Words.{found_of, rows_of};
-ghost use Rattle.gen_words.specs.Systems.{AsksForSystems, IsAdmissionFault, IsAdmitFault, IsEnrollFault, IsForSystems, IsNumberOf, IsSystemFault, IsSystemsFaultOf, context_asked};
+ghost use Rattle.gen_words.specs.Systems.{AsksForSystems, IsAdmissionFault, IsAdmitFault, IsEnrollFault, IsForSystems, IsNumberOf, IsSystemFault, IsSystemsFaultOf, context_asked, read_both};
 ghost use Rattle.gen_words.specs.Jobs.{height_asked};
 
-use crate::several::{named_in, read_once, text_of};
+use crate::several::{STANDARD, named_in, read_once, text_of};
 use crate::words::{WordsFault, is_set, matches_of, number_between, workers_of};
 use clap::ArgMatches;
 use gen_audit::WorkerCount;
@@ -16,7 +16,7 @@ use thiserror::Error;
 /// The most levels of the tree of an identity.
 const MOST_LEVELS: u8 = 20;
 
-/// Which option of the commands of identities and systems has a bad value.
+/// Which option of the commands of identities and systems has a bad value, or stands where it may not.
 #[derive(Clone, Copy, Debug, PartialEq, Eq, Error)]
 pub enum SystemsFault {
     /// The text behind `--levels` is no decimal number from 0 to 20, without leading zeros or a sign.
@@ -28,6 +28,15 @@ pub enum SystemsFault {
     /// The text behind `--number` is no decimal number below 2 to the power of 32, without leading zeros or a sign.
     #[error("error: --number takes the number of a run")]
     BadNumber,
+    /// An id stands behind `--system`, and no admission behind `--admission`.
+    #[error("error: --system stands beside --admission alone")]
+    SystemAlone,
+    /// Runs are asked for both by their ids and by an admission.
+    #[error("error: --run and --admission do not stand together")]
+    AlsoRun,
+    /// The text behind `--system` has not 64 hexadecimal digits.
+    #[error("error: --system takes 64 hexadecimal digits")]
+    BadSystem,
 }
 
 /// What words ask for that name a command of identities and systems. A file of None is standard input, as a minus is.
@@ -41,6 +50,8 @@ pub enum Systems<'a> {
         height: TreeHeight,
         /// How many workers make trees.
         workers: WorkerCount,
+        /// The word for the file that the roots begin with, if only those behind it are made.
+        resume: Option<&'a str>,
         /// The word for the file of the secret.
         secret: Option<&'a str>,
     },
@@ -101,7 +112,7 @@ fn run_number(text: Option<&str>) -> Option<u32>
 
 /// Returns the 32 bytes that 64 hexadecimal digits spell.
 #[tactic(auto, unfolding(crate::specs::Systems::context_asked))]
-fn context_of(text: Option<&str>) -> Option<[u8; 32]>
+pub(crate) fn context_of(text: Option<&str>) -> Option<[u8; 32]>
     ensures { result ≡ context_asked (option_map (λ t. t.now) text.entry) }
 {
     match <[u8; 32] as FromHex>::from_hex(text?.as_bytes()) {
@@ -121,6 +132,18 @@ fn height_of(text: Option<&str>) -> TreeHeight
     }
 }
 
+/// Returns whether two inputs are standard input: a minus stands for the first one, and a minus or no word for the second
+/// one.
+fn read_both(first: Option<&str>, second: Option<&str>) -> bool
+    ensures { result ≡ read_both (option_map (λ t. t.now) first.entry) (option_map (λ t. t.now) second.entry) }
+{
+    match (first, second) {
+        (None, _) => false,
+        (Some(first), None) => first == STANDARD,
+        (Some(first), Some(second)) => first == STANDARD && second == STANDARD,
+    }
+}
+
 /// Returns what the arguments of the command `enroll` say.
 fn enroll_said<'a>(inner: &ArgMatches<'a>) -> Result<Systems<'a>, WordsFault>
     ensures said { IfOk result (λ s. IsForSystems (codes "enroll", rows_of (found_of inner.now)) s) }
@@ -132,11 +155,17 @@ fn enroll_said<'a>(inner: &ArgMatches<'a>) -> Result<Systems<'a>, WordsFault>
     let Some(workers) = workers_of(text_of(inner, "workers")) else {
         return Err(WordsFault::BadWorkers);
     };
+    let resume = text_of(inner, "resume");
+    let secret = text_of(inner, "file");
+    if read_both(resume, secret) {
+        return Err(WordsFault::TwoStandard);
+    }
     Ok(Systems::Enroll {
         levels,
         height: height_of(text_of(inner, "tall")),
         workers,
-        secret: text_of(inner, "file"),
+        resume,
+        secret,
     })
 }
 
@@ -210,7 +239,7 @@ fn admit_said<'a>(inner: &ArgMatches<'a>) -> Result<Systems<'a>, WordsFault>
 /// `Systems` if the command takes `--levels`, `--context` or `--number`, and its text is none of those that the option
 /// takes: the first of these three. Else `BadWorkers` if the command is `enroll`, and the text behind `--workers` is no
 /// number from 1 to 16. Else `BadLog` if a word behind the system is not `G=ROOTS`, with a number from 0 to 15. Else
-/// `TwoStandard` if a minus stands for several files. `Memory` if memory was refused. A mistake that the command line finds
+/// `TwoStandard` if standard input stands for several files. `Memory` if memory was refused. A mistake that the command line finds
 /// is told by `read_request`.
 pub fn read_systems<'a>(
     alloc: Global,

@@ -10,11 +10,12 @@ ghost use Rattle.library_tests.specs.Seats.{MayTakeSeat};
 use crate::edge_frames::frame_of;
 use crate::gates::Open;
 use crate::own_threads::{Seat, run_seat, seats_of};
-use crate::scenarios::line;
+use crate::scenarios::{LINE, stage_of};
 use gen_edge::{Edge, Frame, PutPass};
+use gen_scenario::Scenario;
 use gen_threads::{Edges, GeneralEnd, Passes, RunFault};
 use gen_types::GeneralNo;
-use gen_world::{Scenario, run_world};
+use gen_world::run_world;
 use std::alloc::Global;
 use std::sync::Wait;
 use std::test::*;
@@ -112,7 +113,7 @@ fn end_between<R: Wait>(rt: &R, alloc: Global, scenario: &Scenario) -> Result<Ge
 #[test]
 fn neighbours_who_end_after_a_round(rt: HostRuntime) -> Result<(), Fail> {
     let alloc = rt.alloc();
-    let stage = line(alloc)?;
+    let stage = stage_of(alloc, LINE)?;
     let scenario = &stage.scenario;
     let end = end_between(&rt, alloc, scenario)?;
     assert!(rt; matches!(&end.logs, Err(RunFault::Gone)) && end.ring.is_some());

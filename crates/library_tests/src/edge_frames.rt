@@ -7,8 +7,9 @@ ghost use Rattle.gen_edge.specs.Tied.{ComesNext};
 ghost use Rattle.gen_edge.specs.Ends.{IsPutPassOf, IsTakePassOf, edge_capacity, put_view};
 
 use gen_edge::{Edge, Frame, Left, PutPass, TakePass};
+use gen_scenario::Scenario;
 use gen_types::GeneralNo;
-use gen_world::{FrameRow, Scenario, WorldRun};
+use gen_world::{FrameRow, WorldRun};
 use std::alloc::{AllocError, Global};
 use std::sync::Wait;
 
@@ -89,15 +90,6 @@ fn shape(frame: &Frame) -> Shape {
     }
 }
 
-/// Tries to put the last word on an edge. Whether it was put.
-pub(crate) fn put_last<R: Wait>(rt: &R, edge: &Edge, pass: &mut PutPass) -> bool
-    requires { IsPutPassOf edge.now pass.old }
-    ensures pass { IsPutPassOf edge.now pass.new }
-    ensures frames { (put_view pass.new).frames ≡ (put_view pass.old).frames }
-{
-    !pass.has_ended() && edge.try_put(rt, pass, Frame::Gone).is_ok()
-}
-
 /// Tells both how far the other is, and puts the last word where an edge that holds so many frames has
 /// room. No second try is needed. Whether it was put.
 pub(crate) fn put_last_told<R: Wait>(
@@ -118,15 +110,6 @@ pub(crate) fn put_last_told<R: Wait>(
     }
     edge.try_put(rt, put, Frame::Gone).unwrap();
     true
-}
-
-/// Tries to take what comes first, and says what it is.
-pub(crate) fn take_shape<R: Wait>(rt: &R, edge: &Edge, pass: &mut TakePass) -> Option<Shape>
-    requires { IsTakePassOf edge.now pass.old }
-    ensures { IsTakePassOf edge.now pass.new }
-{
-    let frame = edge.try_take(rt, pass)?;
-    Some(shape(&frame))
 }
 
 /// Tells the taker what was put, and takes what comes first where something was put and not taken.

@@ -6,8 +6,9 @@ ghost use Rattle.gen_edge.specs.Ends.{IsPutPassOf, IsTakePassOf, edge_capacity, 
 
 use crate::edge_frames::{Shape, are_left, put_last_told, put_next, take_told};
 use gen_edge::{Edge, PutPass, TakePass};
+use gen_scenario::Scenario;
 use gen_types::GeneralNo;
-use gen_world::{Scenario, WorldRun, run_world};
+use gen_world::{WorldRun, run_world};
 use std::alloc::{AllocError, Global};
 use std::sync::Wait;
 

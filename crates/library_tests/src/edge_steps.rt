@@ -3,7 +3,7 @@
 //! got from the commander, in a chain of two signers. Such a chain has 2 bytes and 16,513 for each signer.
 use crate::edge_frames::Shape;
 use crate::edge_lanes::Lane;
-use crate::scenarios::without_scripts;
+use crate::scenarios::{TRIANGLE, scenario_of};
 use gen_types::GeneralNo;
 use std::alloc::Global;
 use std::sync::Wait;
@@ -20,7 +20,7 @@ const LAST: Shape = (0, 0, 0);
 
 /// The edge from 1 to 2 of the triangle, with two rounds, which holds one frame.
 fn lane_of(alloc: Global) -> Result<Lane, Fail> {
-    let triangle = without_scripts(alloc, 3, &[(0, 1), (0, 2), (1, 2)], (1, 1))?;
+    let triangle = scenario_of(alloc, TRIANGLE)?;
     let way = (GeneralNo::at(1), GeneralNo::at(2));
     Ok(Lane::new(alloc, triangle, way, 1)?)
 }

@@ -7,7 +7,7 @@ use std::sync::atomic::{AtomicBool, Ordering};
 pub(crate) const FEW: u32 = 100_000_000;
 
 /// How often a general looks for what should come.
-pub(crate) const MANY: u32 = 1_000_000_000;
+const MANY: u32 = 1_000_000_000;
 
 /// A gate at which nobody waits.
 #[derive(Drop)]

@@ -1,12 +1,13 @@
-//! This crate has the tests of the libraries below the jobs that are no rows and that no clause says.
+//! This crate has the tests of what is no row and no clause says.
 //!
-//! Of values, keys, signed texts and judging it tests: hashes and keys against values of the standards, the
-//! texts of faults, copies of walks, which leaves are taken, and how many verifications a store or reports
-//! make. It tests runs by a machine (`gen_async`), and by threads over edges (`gen_edge`, `gen_threads`). Of
-//! nodes (`gen_node`) it has what the library for C does not call. Of enrolment (`gen_enroll`) it compares
-//! numbers of workers. The laws are called in `library_laws` and `run_laws`.
+//! `standards` has vectors of the standards, `texts` the texts of faults that no row has, `rings` which
+//! leaves are taken, and `reports` how many verifications reports make. Runs are made by a machine
+//! (`machine`), by threads (`logs_of_runs`, `own_threads`, `early_end`), and judged while they go on
+//! (`judged_gates`). `edge_steps` has an edge, and `desk_waits` a desk.
 #![tactic(auto)]
 
+#[cfg(test)]
+mod desk_waits;
 #[cfg(test)]
 mod early_end;
 #[cfg(test)]
@@ -16,27 +17,13 @@ mod edge_lanes;
 #[cfg(test)]
 mod edge_steps;
 #[cfg(test)]
-mod edge_threads;
-#[cfg(test)]
-mod enrolling;
-#[cfg(test)]
 mod gates;
 #[cfg(test)]
-mod lane_chains;
-#[cfg(test)]
-mod lanes;
-#[cfg(test)]
-mod library_laws;
+mod judged_gates;
 #[cfg(test)]
 mod logs_of_runs;
 #[cfg(test)]
 mod machine;
-#[cfg(test)]
-mod made;
-#[cfg(test)]
-mod nodes;
-#[cfg(test)]
-mod one_time;
 #[cfg(test)]
 mod own_threads;
 #[cfg(test)]
@@ -44,12 +31,8 @@ mod reports;
 #[cfg(test)]
 mod rings;
 #[cfg(test)]
-mod run_laws;
-#[cfg(test)]
 mod scenarios;
 #[cfg(test)]
-mod stores;
+mod standards;
 #[cfg(test)]
 mod texts;
-#[cfg(test)]
-mod walks;

@@ -1,9 +1,8 @@
-//! Runs in threads: that generals run at once and wait for each other's frames, and how many frames an edge
-//! holds.
-use crate::gates::{FEW, MANY, Meeting, Watch};
-use crate::scenarios::{are_same, line, logs_of_run, pair};
+//! Runs in threads: that generals run at once and wait for each other's frames.
+use crate::gates::{FEW, Meeting, Watch};
+use crate::scenarios::{LINE, PAIR, are_same, logs_of_run, stage_of};
+use gen_scenario::Scenario;
 use gen_threads::{Gate, run_threads};
-use gen_world::Scenario;
 use std::alloc::Global;
 use std::sync::Wait;
 use std::test::*;
@@ -27,7 +26,7 @@ fn runs_alike<R: Threads + Wait + Sync, G: Gate + Sync>(
 
 #[test]
 fn generals_run_at_once(rt: HostRuntime) -> Result<(), Fail> {
-    let stage = pair(rt.alloc())?;
+    let stage = stage_of(rt.alloc(), PAIR)?;
     let scenario = &stage.scenario;
     let gate = Meeting::new();
     assert!(rt; runs_alike(&rt, rt.alloc(), scenario, 1, &gate)? && gate.has_met());
@@ -36,38 +35,9 @@ fn generals_run_at_once(rt: HostRuntime) -> Result<(), Fail> {
 
 #[test]
 fn generals_wait_for_frames(rt: HostRuntime) -> Result<(), Fail> {
-    let stage = line(rt.alloc())?;
+    let stage = stage_of(rt.alloc(), LINE)?;
     let scenario = &stage.scenario;
     let gate = Watch::new((0, 2), (1, 3), FEW);
     assert!(rt; runs_alike(&rt, rt.alloc(), scenario, 16, &gate)? && gate.has_waited());
-    Ok(())
-}
-
-/// Whether general 3 comes to round 3 of the line while general 0 waits before round 1.
-fn comes_early<R: Threads + Wait + Sync>(
-    rt: &R,
-    alloc: Global,
-    scenario: &Scenario,
-    capacity: usize,
-    times: u32,
-) -> Result<bool, Fail> {
-    let gate = Watch::new((0, 1), (3, 3), times);
-    if !runs_alike(rt, alloc, scenario, capacity, &gate)? {
-        return Err("other logs".into());
-    }
-    Ok(gate.came_early())
-}
-
-/// While general 0 waits, general 1 takes nothing of general 2, since the frame of general 0 comes first. Of
-/// general 2 come two frames to general 3, each behind one to general 1. So an edge that holds one frame
-/// holds them up.
-#[test]
-fn an_edge_holds_as_many_frames_as_are_asked_for(rt: HostRuntime) -> Result<(), Fail> {
-    let stage = line(rt.alloc())?;
-    let scenario = &stage.scenario;
-    assert!(rt; !comes_early(&rt, rt.alloc(), scenario, 1, FEW)?);
-    for capacity in [2, 3, 16] {
-        assert!(rt; comes_early(&rt, rt.alloc(), scenario, capacity, MANY)?);
-    }
     Ok(())
 }

@@ -4,11 +4,11 @@ ghost use Rattle.gen_threads.specs.Edges.{AllHavePasses};
 ghost use Rattle.library_tests.specs.Seats.{MayTakeSeat};
 
 use crate::gates::{FEW, Meeting, Watch};
-use crate::scenarios::{is_same, line, logs_of_run, pair};
+use crate::scenarios::{LINE, PAIR, is_same, logs_of_run, stage_of};
 use gen_log::SealedLog;
+use gen_scenario::Scenario;
 use gen_threads::{Edges, Gate, GeneralEnd, Passes, RunPart, run_general};
 use gen_types::GeneralNo;
-use gen_world::Scenario;
 use std::alloc::{AllocError, Global};
 use std::sync::Wait;
 use std::test::*;
@@ -130,7 +130,7 @@ fn end_alike<R: Threads + Wait + Sync, G: Gate + Sync>(
 /// Generals 0 and 1 each wait, before round 1, until the other is there too.
 #[test]
 fn a_pair_meets_in_threads_of_its_own(rt: HostRuntime) -> Result<(), Fail> {
-    let stage = pair(rt.alloc())?;
+    let stage = stage_of(rt.alloc(), PAIR)?;
     let scenario = &stage.scenario;
     let gate = Meeting::new();
     assert!(rt; end_alike(&rt, rt.alloc(), scenario, &gate)? && gate.has_met());
@@ -140,7 +140,7 @@ fn a_pair_meets_in_threads_of_its_own(rt: HostRuntime) -> Result<(), Fail> {
 /// General 1 waits for the frame that general 0 puts in round 2, and generals 2 and 3 wait with it.
 #[test]
 fn a_line_waits_in_threads_of_its_own(rt: HostRuntime) -> Result<(), Fail> {
-    let stage = line(rt.alloc())?;
+    let stage = stage_of(rt.alloc(), LINE)?;
     let scenario = &stage.scenario;
     let gate = Watch::new((0, 2), (1, 3), FEW);
     assert!(rt; end_alike(&rt, rt.alloc(), scenario, &gate)? && gate.has_waited());

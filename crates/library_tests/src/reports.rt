@@ -1,16 +1,11 @@
 //! How many answers a store keeps through which reports on the logs of a run are made. No clause says it.
-use crate::scenarios::scenario_of;
+use crate::scenarios::{SILENT, stage_of};
 use gen_chain::VerifyStore;
 use gen_local::{exhibits_of_logs, local_reports};
-use gen_world::{Scenario, run_world};
+use gen_scenario::Scenario;
+use gen_world::run_world;
 use std::alloc::Global;
 use std::test::Fail;
-
-/// A ring of six, in which general 3 is silent.
-const RING: &[u8] = b"\
-    generals 6\nedge 0 1\nedge 1 2\nedge 2 3\nedge 3 4\nedge 4 5\nedge 5 0\n\
-    traitors 1\ndiameter 4\norders 2\nchoice 0\norder 1\n\
-    seed 0000000000000000000000000000000000000000000000000000000000000000\nscript 3\nend\n";
 
 /// Returns how many answers a new store keeps, by which the logs of a run are reported on side by side;
 /// None if not each log has a report.
@@ -28,7 +23,7 @@ fn runs_of(alloc: Global, scenario: &Scenario) -> Result<Option<u64>, Fail> {
 // Of 17 signatures of statements 5 are distinct.
 #[test]
 fn each_signature_once(rt: HostRuntime) -> Result<(), Fail> {
-    let stage = scenario_of(rt.alloc(), RING)?;
+    let stage = stage_of(rt.alloc(), SILENT)?;
     assert!(rt; runs_of(rt.alloc(), &stage.scenario)? == Some(5));
     Ok(())
 }

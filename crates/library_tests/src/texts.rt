@@ -1,4 +1,5 @@
 //! The texts of faults that no row has.
+use gen_desk::DeskFault;
 use gen_net::HeaderFault;
 use gen_types::{PathFault, ReadError};
 use gen_walks::WalkFault;
@@ -25,5 +26,6 @@ fn texts_of_faults(rt: HostRuntime) -> Result<(), Fail> {
     );
     assert!(rt; is_shown(rt.alloc(), &ReadError::<char>::Memory, "memory was refused")?);
     assert!(rt; is_shown(rt.alloc(), &WalkFault::Memory, "memory")?);
+    assert!(rt; is_shown(rt.alloc(), &DeskFault::Memory, "memory")?);
     Ok(())
 }

@@ -1,7 +1,9 @@
 //! What calls answer, and how it is written.
-use gen_audit::AuditFault;
+use gen_audit::{AuditFault, Judgement};
+use gen_net::Header;
+use gen_report::print_verdict;
 use gen_types::ReadError;
-use std::alloc::AllocError;
+use std::alloc::{AllocError, Global};
 use std::io::{self, Write};
 
 /// Why a call gave nothing.
@@ -40,6 +42,11 @@ impl From<AuditFault> for Failure {
             AuditFault::Thread => Failure::Thread,
         }
     }
+}
+
+/// Returns the text of a verdict.
+pub(crate) fn verdict_text(alloc: Global, header: &Header, judgement: &Judgement) -> Answer {
+    Ok(print_verdict(alloc, header, judgement)?)
 }
 
 /// Writes a line to standard output.

@@ -1,9 +1,8 @@
 //! Calls that are made with a bundle.
-use crate::again_answers::{Answer, Failure};
+use crate::again_answers::{Answer, Failure, verdict_text};
 use crate::again_scenarios::Open;
 use crate::{again_campaigns, again_chains, again_logs, again_refuting, again_stores};
 use gen_audit::{Bundle, WorkerCount, audit, read_bundle, write_bundle};
-use gen_report::print_verdict;
 use std::alloc::Global;
 use std::sync::Wait;
 use std::thread::Threads;
@@ -45,5 +44,5 @@ fn read_again(alloc: Global, input: &[u8]) -> Answer {
 fn verdict<R: Threads + Wait + Sync>(rt: &R, alloc: Global, bundle: &Bundle) -> Answer {
     let two = WorkerCount::new(2).unwrap_or(WorkerCount::one());
     let judgement = audit(rt, alloc, bundle, two, &Open)?;
-    Ok(print_verdict(alloc, bundle.header(), &judgement)?)
+    verdict_text(alloc, bundle.header(), &judgement)
 }

@@ -2,17 +2,17 @@
 ghost use Rattle.std.specs.Prelude.{IfOk};
 ghost use Rattle.gen_audit.specs.BundleParts.{AreListedWalks};
 
-use crate::again_answers::{Answer, Failure};
+use crate::again_answers::{Answer, Failure, verdict_text};
 use crate::{again_acting, again_desks};
 use gen_audit::{AuditFault, JobGate, Judgement, WorkerCount};
 use gen_judge::run_and_audit;
 use gen_log::SealedLog;
-use gen_report::{print_decisions, print_verdict};
+use gen_report::print_decisions;
 use gen_scenario::Scenario;
 use gen_threads::Gate;
 use gen_types::GeneralNo;
 use gen_walks::{WalkFault, Walks, make_walks};
-use gen_world::run_world;
+use gen_world::{WorldRun, run_world};
 use std::alloc::Global;
 use std::sync::Wait;
 use std::thread::Threads;
@@ -56,6 +56,11 @@ pub(crate) fn with_logs(alloc: Global, front: &[u8], logs: &[SealedLog]) -> Answ
 /// Calls `run_world` and `print_decisions`. Returns the decisions and the logs.
 fn world(alloc: Global, scenario: &Scenario) -> Answer {
     let run = run_world(alloc, scenario)?;
+    told_of(alloc, &run)
+}
+
+/// Returns the decisions and the logs of a run.
+fn told_of(alloc: Global, run: &WorldRun) -> Answer {
     let decisions = print_decisions(alloc, run.decisions())?;
     with_logs(alloc, decisions.as_slice(), run.logs())
 }
@@ -92,5 +97,5 @@ fn judgement<R: Threads + Wait + Sync>(rt: &R, alloc: Global, scenario: &Scenari
         return Err(Failure::Memory);
     };
     let judgement = audited_run(rt, alloc, scenario, &walks)?;
-    Ok(print_verdict(alloc, scenario.header(), &judgement)?)
+    verdict_text(alloc, scenario.header(), &judgement)
 }

@@ -3,11 +3,10 @@ ghost use Rattle.std.specs.Prelude.{IfOk};
 ghost use Rattle.gen_chain.specs.Store.{Serves};
 ghost use Rattle.gen_audit.specs.Telling.{AreReports};
 
-use crate::again_answers::Answer;
+use crate::again_answers::{Answer, verdict_text};
 use gen_audit::{Bundle, judge_reports};
 use gen_chain::VerifyStore;
 use gen_local::{LocalReport, local_reports};
-use gen_report::print_verdict;
 use std::alloc::{AllocError, Global};
 
 /// Returns the reports on the exhibits, which are made with this store.
@@ -34,10 +33,17 @@ fn reports_again(alloc: Global, bundle: &Bundle) -> Result<Vec<LocalReport>, All
     }
 }
 
+/// Returns the text of the verdict by these reports.
+fn judged(alloc: Global, bundle: &Bundle, reports: &[LocalReport]) -> Answer
+    requires { AreReports bundle.now reports.now }
+{
+    let judgement = judge_reports(alloc, bundle, reports)?;
+    verdict_text(alloc, bundle.header(), &judgement)
+}
+
 /// Calls `local_reports`, `judge_reports` and `print_verdict`. Returns the text of the verdict. If the
 /// reports are refused, they are made again with the same store.
 pub(crate) fn call(alloc: Global, bundle: &Bundle) -> Answer {
     let reports = reports_again(alloc, bundle)?;
-    let judgement = judge_reports(alloc, bundle, reports.as_slice())?;
-    Ok(print_verdict(alloc, bundle.header(), &judgement)?)
+    judged(alloc, bundle, reports.as_slice())
 }

@@ -19,6 +19,8 @@ mod again_logs;
 mod again_refuting;
 mod again_scenarios;
 mod again_stores;
+mod clock;
+mod desks;
 mod frames;
 mod judging;
 mod judging_bundles;
@@ -54,7 +56,8 @@ pub fn tell(alloc: Global, call: &str, row: Row<'_>, answer: &mut Answer) -> Res
             || signing::tell(alloc, call, row, answer)?
             || judging::tell(alloc, call, row, answer)?
             || preparing::tell(alloc, call, row, answer)?
-            || frames::tell(alloc, call, row, answer)?,
+            || frames::tell(alloc, call, row, answer)?
+            || clock::tell(call, row, answer)?,
     )
 }
 

@@ -7,11 +7,11 @@ use crate::names::{Refused, numbered};
 use crate::rows::Row;
 use crate::texts::Answer;
 use crate::values_headers;
-use gen_audit::{BundleFault, read_bundle, write_bundle};
+use gen_audit::{Bundle, BundleFault, read_bundle, write_bundle};
 use gen_local::Exhibit;
-use gen_net::{Version, header_bytes};
+use gen_net::{Header, Version, header_bytes};
 use gen_prepare::{HeaderTextFault, bundle_of_parts, hold, read_header_text, root_text};
-use gen_types::{ReadError, TreeHeight};
+use gen_types::{GeneralSet, ReadError, TreeHeight};
 use std::alloc::Global;
 
 /// Answers a call of this module, and returns whether it is one.
@@ -83,11 +83,16 @@ fn tell_header_fault(fault: HeaderTextFault, answer: &mut Answer) {
 fn tell_header(alloc: Global, mut row: Row<'_>, answer: &mut Answer) -> Result<(), Refused> {
     let version = version_in(row.word()?)?;
     match read_header_text(alloc, version, row.rest()?) {
-        Ok(header) => values_headers::tell_header(alloc, &header_bytes(alloc, &header)?, answer)?,
-        Err(ReadError::Fault(fault)) => tell_header_fault(fault, answer),
-        Err(ReadError::Memory) => return Err(Refused),
+        Ok(header) => tell_made_header(alloc, &header, answer),
+        Err(ReadError::Fault(fault)) => Ok(tell_header_fault(fault, answer)),
+        Err(ReadError::Memory) => Err(Refused),
     }
-    Ok(())
+}
+
+/// Tells what a header says once it was written.
+fn tell_made_header(alloc: Global, header: &Header, answer: &mut Answer) -> Result<(), Refused> {
+    let bytes = header_bytes(alloc, header)?;
+    values_headers::tell_header(alloc, &bytes, answer)
 }
 
 /// Returns the logs of the generals that a word says, with commas between them, each of which is a piece.
@@ -121,7 +126,16 @@ fn held_bytes(alloc: Global, mut row: Row<'_>) -> Result<Vec<u8>, ReadError<Bund
         return Err(ReadError::Memory);
     };
     let bundle = read_bundle(alloc, bytes)?;
-    let other = hold(alloc, &bundle, faulty)?;
+    held_by(alloc, &bundle, faulty)
+}
+
+/// Returns the bytes of a bundle with this list.
+fn held_by(
+    alloc: Global,
+    bundle: &Bundle,
+    faulty: GeneralSet,
+) -> Result<Vec<u8>, ReadError<BundleFault>> {
+    let other = hold(alloc, bundle, faulty)?;
     Ok(write_bundle(alloc, &other)?)
 }
 

@@ -152,10 +152,7 @@ impl<'a> Row<'a> {
 
     /// Returns the header that is the next piece.
     pub fn header(&mut self, alloc: Global) -> Result<Header, Refused> {
-        match read_header(alloc, self.piece()?) {
-            Ok((header, _)) => Ok(header),
-            Err(_) => Err(Refused),
-        }
+        header_in(alloc, self.piece()?)
     }
 
     /// Returns the row of which so many of the bytes behind its words stand.
@@ -183,5 +180,13 @@ impl<'a> Row<'a> {
             Some(len) => bytes.get(..len).ok_or(Refused),
             None => Ok(bytes),
         }
+    }
+}
+
+/// Returns the header that is the first of these bytes.
+pub(crate) fn header_in(alloc: Global, bytes: &[u8]) -> Result<Header, Refused> {
+    match read_header(alloc, bytes) {
+        Ok((header, _)) => Ok(header),
+        Err(_) => Err(Refused),
     }
 }

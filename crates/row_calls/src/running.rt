@@ -1,5 +1,6 @@
-//! Campaigns that are run.
+//! Campaigns that are run, and desks.
 use crate::again_scenarios::Open;
+use crate::desks;
 use crate::judging_texts::tell_fault;
 use crate::names::Refused;
 use crate::rows::Row;
@@ -22,6 +23,7 @@ pub fn tell<R: AllocGlobal + Threads + Wait + Sync>(
 ) -> Result<bool, Refused> {
     match call {
         "leaves_taken" => tell_taken(rt, row, answer)?,
+        "desk" => desks::tell_desk(rt, rt.alloc(), row, answer)?,
         _ => return Ok(false),
     }
     Ok(true)

@@ -2,7 +2,7 @@
 ghost use Rattle.std.specs.Prelude.{◌≡◌, IfOk};
 
 use crate::names::Refused;
-use crate::rows::Row;
+use crate::rows::{Row, header_in};
 use crate::signing_keys::signature_of;
 use crate::texts::Answer;
 use gen_chain::{
@@ -145,12 +145,24 @@ pub(crate) fn tell_made(
     answer: &mut Answer,
 ) -> Result<(), Refused> {
     let master = row.hash()?;
-    let header = row.header(alloc)?;
+    let piece = row.piece()?;
     let statement = statement_of(&mut row)?;
-    let bytes = made(alloc, &master, &header, &statement)?;
+    let header = header_in(alloc, piece)?;
+    tell_chain_of(alloc, &master, &header, &statement, answer)
+}
+
+/// Tells the same under a header.
+fn tell_chain_of(
+    alloc: Global,
+    master: &[u8; 32],
+    header: &Header,
+    statement: &Statement,
+    answer: &mut Answer,
+) -> Result<(), Refused> {
+    let bytes = made(alloc, master, header, statement)?;
     answer.digest(bytes.as_slice());
     answer.word("verifies");
-    tell_whether(alloc, &header, bytes.as_slice(), answer);
+    tell_whether(alloc, header, bytes.as_slice(), answer);
     Ok(())
 }
 

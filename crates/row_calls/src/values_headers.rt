@@ -20,13 +20,22 @@ fn mark_in(row: &mut Row<'_>) -> Result<u32, Refused> {
 /// Tells what a header in front of these bytes says, or its fault.
 pub(crate) fn tell_header(alloc: Global, bytes: &[u8], answer: &mut Answer) -> Result<(), Refused> {
     match read_header(alloc, bytes) {
-        Ok((header, taken)) => {
-            let written = header_bytes(alloc, &header)?;
-            let behind = bytes.len().saturating_sub(taken);
-            tell_written(&header, written.as_slice(), bytes, behind, answer);
-        }
-        Err(fault) => answer.show(fault),
+        Ok((header, taken)) => tell_read(alloc, &header, bytes, taken, answer),
+        Err(fault) => Ok(answer.show(fault)),
     }
+}
+
+/// Tells what a header says that is the first of these bytes.
+fn tell_read(
+    alloc: Global,
+    header: &Header,
+    bytes: &[u8],
+    taken: usize,
+    answer: &mut Answer,
+) -> Result<(), Refused> {
+    let written = header_bytes(alloc, header)?;
+    let behind = bytes.len().saturating_sub(taken);
+    tell_written(header, written.as_slice(), bytes, behind, answer);
     Ok(())
 }
 
@@ -41,15 +50,32 @@ pub(crate) fn tell_front(
     let marks = Marks { one, two };
     let bytes = row.rest()?;
     match read_front(alloc, marks, bytes) {
-        Ok((header, rest)) => {
-            let written = front_bytes(alloc, marks, &header)?;
-            tell_written(&header, written.as_slice(), bytes, rest.len(), answer);
-        }
-        Err(ReadError::Fault(FrontFault::Truncated)) => answer.word("truncated"),
-        Err(ReadError::Fault(FrontFault::UnknownMark)) => answer.word("unknown mark"),
-        Err(ReadError::Fault(FrontFault::BadHeader(fault))) => answer.field("header", fault),
-        Err(ReadError::Memory) => return Err(Refused),
+        Ok((header, rest)) => tell_behind(alloc, marks, &header, bytes, rest.len(), answer),
+        Err(ReadError::Fault(fault)) => Ok(tell_front_fault(fault, answer)),
+        Err(ReadError::Memory) => Err(Refused),
     }
+}
+
+/// Tells the fault of bytes that are no mark with a header.
+fn tell_front_fault(fault: FrontFault, answer: &mut Answer) {
+    match fault {
+        FrontFault::Truncated => answer.word("truncated"),
+        FrontFault::UnknownMark => answer.word("unknown mark"),
+        FrontFault::BadHeader(fault) => answer.field("header", fault),
+    }
+}
+
+/// Tells what a header says that stands behind its mark in front of these bytes.
+fn tell_behind(
+    alloc: Global,
+    marks: Marks,
+    header: &Header,
+    bytes: &[u8],
+    behind: usize,
+    answer: &mut Answer,
+) -> Result<(), Refused> {
+    let written = front_bytes(alloc, marks, header)?;
+    tell_written(header, written.as_slice(), bytes, behind, answer);
     Ok(())
 }
 

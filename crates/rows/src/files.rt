@@ -20,15 +20,27 @@ pub(crate) fn try_file<R: AllocGlobal + Files + Print + Threads + Wait + Sync>(
     let mut number = 0u64;
     for line in text.lines() {
         number = number.saturating_add(1);
-        let mut wrong = Answer::new(rt.alloc());
-        try_line(rt, &mut names, line, &mut wrong)?;
-        let said = wrong.text()?;
-        if !said.is_empty() {
-            println!(rt; "{name}, line {number}: {said}")?;
-        }
+        tell_line(rt, &mut names, name, number, line)?;
     }
     let end = if number == 0 { "nothing" } else { "the end" };
     println!(rt; "{name}: read to {end}")
+}
+
+/// Does what a line of a file says, and writes a line if its answer is another one.
+fn tell_line<R: AllocGlobal + Files + Print + Threads + Wait + Sync>(
+    rt: &R,
+    names: &mut Names,
+    name: &str,
+    number: u64,
+    line: &str,
+) -> io::Result<()> {
+    let mut wrong = Answer::new(rt.alloc());
+    try_line(rt, names, line, &mut wrong)?;
+    let said = wrong.text()?;
+    if !said.is_empty() {
+        println!(rt; "{name}, line {number}: {said}")?;
+    }
+    Ok(())
 }
 
 /// What a line of a file is.
@@ -147,16 +159,29 @@ fn tell_cuts<R: AllocGlobal + Threads + Wait + Sync>(
     let call = row.word()?;
     let mut before = Answer::new(rt.alloc());
     for len in from..to {
-        let mut next = Answer::new(rt.alloc());
-        tell(rt, call, row.cut(len), &mut next)?;
-        if next.text()? != before.text()? {
-            answer.end_line();
-            answer.show(len);
-            answer.word(next.text()?);
-        }
-        before = next;
+        before = tell_cut(rt, call, row.cut(len), len, &before, answer)?;
     }
     Ok(())
+}
+
+/// Tells the answer to the beginning of this length if it is another one than the answer before. Returns it.
+fn tell_cut<R: AllocGlobal + Threads + Wait + Sync>(
+    rt: &R,
+    call: &str,
+    row: Row<'_>,
+    len: usize,
+    before: &Answer,
+    answer: &mut Answer,
+) -> Result<Answer, Refused> {
+    let mut next = Answer::new(rt.alloc());
+    tell(rt, call, row, &mut next)?;
+    let said = next.text()?;
+    if said != before.text()? {
+        answer.end_line();
+        answer.show(len);
+        answer.word(said);
+    }
+    Ok(next)
 }
 
 /// Answers a call.

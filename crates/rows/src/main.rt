@@ -2,8 +2,7 @@
 //!
 //! Standard input has the names of files with rows, one a line; the files lie in the folder that the program is run in.
 //! docs/ROWS.md says how a row is written and which calls there are. The program writes a line for each row whose answer is
-//! another one than stands in the row, and a line for each file. Behind all files it is `sm_tool` itself, by the words of
-//! the process, and ends with the exit status of that.
+//! another one than stands in the row, and a line for each file.
 //!
 //! If the word before the last is `again`, the program tries no rows. It makes the call of the libraries that the last word
 //! names, for the trial that refuses memory and threads.
@@ -13,7 +12,6 @@ mod commands;
 mod files;
 mod forms;
 
-use gen_program::Built;
 use row_calls::again;
 use std::process::ExitCode;
 use std::rt::{Env, Files};
@@ -35,25 +33,22 @@ fn name_of_call<R: AllocGlobal + Env>(rt: &R) -> io::Result<Option<String>> {
     Ok(if is_named { Some(last) } else { None })
 }
 
-/// Makes the call that the words name; if they name none, tries the rows of each file that standard input names. Returns
-/// whether the command of the words comes next.
+/// Makes the call that the words name; if they name none, tries the rows of each file that standard input names.
 fn begin<R: AllocGlobal + Env + Files + Input + Print + Threads + Wait + Sync>(
     rt: &R,
-) -> io::Result<bool> {
+) -> io::Result<()> {
     if let Some(name) = name_of_call(rt)? {
-        again::call(rt, name.as_str())?;
-        return Ok(false);
+        return again::call(rt, name.as_str());
     }
     for name in rt.lines(rt.alloc()) {
         files::try_file(rt, name?.as_str())?;
     }
-    Ok(true)
+    Ok(())
 }
 
 fn main(rt: HostRuntime) -> ExitCode {
     match begin(&rt) {
-        Ok(true) => ExitCode::from(gen_program::run(&rt, &Built::unknown())),
-        Ok(false) => ExitCode::SUCCESS,
+        Ok(()) => ExitCode::SUCCESS,
         Err(_) => ExitCode::from(FAILED),
     }
 }

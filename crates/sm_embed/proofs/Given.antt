@@ -1,6 +1,6 @@
 -- What is made of an answer about a general that may be no run's.
 use native.Mathlib.Omega.{arith}
-use Rattle.std.proofs.Common.{◌≡◌, ◌<◌, ◌≤◌, ℕ, Bool, true, false, if◌then◌else◌, List, Option, Some, None, Result, Ok, Err, inl, inr, refl, sym, subst}
+use Rattle.std.proofs.Common.{◌≡◌, ◌<◌, ◌≤◌, ℕ, Bool, true, false, if◌then◌else◌, List, Option, Some, None, Result, Ok, Err, ◌⊎◌, inl, inr, refl, sym, subst}
 use Rattle.std.specs.Prelude.{IfOk, IfErr}
 use Rattle.std.proofs.lemmas.Option.{none-some, same_Some}
 use Rattle.gen_asked.specs.declared.jobs.Job.{Job}
@@ -25,6 +25,13 @@ pub is_made : (A : List ℕ → Bool → Type 0) (B : List Fact → Type 0) (F :
 is_made A B F answered None status a b f keeps = inr (inr (inr (keeps, refl)))
 is_made A B F (Ok answered) (Some kept) status a b f keeps = by_answer A B F answered.output.negative kept status (subst (λ (k : Kept). A k.text.items answered.output.negative) (sym keeps.0) a) (subst (λ (k : Kept). B k.facts.items) (sym keeps.0) b) keeps.1
 is_made A B F (Err fault) (Some kept) status a b f keeps = inr (inr (inl (fault, f, keeps.0, keeps.1)))
+
+-- the same where memory was refused behind the answer
+pub is_made_or : (A : List ℕ → Bool → Type 0) (B : List Fact → Type 0) (F : JobFault → Type 0) (answered : Result Answered JobFault) (held : Option Kept) (status : ℕ) → IfOk answered (λ a. A a.output.text.items a.output.negative) → IfOk answered (λ a. B a.facts.items) → IfErr answered (λ f. F f ⊎ (f ≡ faults.Memory)) → Keeps answered held status → IsMade A B F held status
+is_made_or A B F answered None status a b f keeps = inr (inr (inr (keeps, refl)))
+is_made_or A B F (Ok answered) (Some kept) status a b f keeps = is_made A B F (Ok answered) (Some kept) status a b tt keeps
+is_made_or A B F (Err fault) (Some kept) status a b (inl f) keeps = is_made A B F (Err fault) (Some kept) status a b f keeps
+is_made_or A B F (Err fault) (Some kept) status a b (inr e) keeps = absurd (none-some status (subst (λ (f : JobFault). line_number f ≡ Some status) e keeps.0))
 
 -- the number for a line is none of an answer
 numbered : (f : JobFault) (n : ℕ) → line_number f ≡ Some n → 3 ≤ n

@@ -9,9 +9,8 @@ use Rattle.gen_asked.specs.declared.jobs.Job.{Job}
 use Rattle.gen_asked.specs.declared.jobs.Job.TheVariants.{AccuseReceipts}
 use Rattle.gen_jobs.specs.Facts.{JobFacts}
 use Rattle.gen_jobs.specs.Jobs.{JobAnswers, JobFails}
-use Rattle.sm_embed.specs.Making.{IsMade, IsMisuse}
+use Rattle.sm_embed.specs.Making.{IsMade}
 use Rattle.sm_embed.specs.declared.kept.Kept.{Kept}
-use Rattle.sm_embed.specs.declared.options.Wanted.{Wanted}
 
 -- the number is that of a general of some run that is shown
 abbrev pub is_known : ℕ → CampaignBundle → Bool
@@ -51,9 +50,3 @@ abbrev pub MakesKnown : Job → ℕ → List ℕ → Option Kept → ℕ → Typ
 MakesKnown job general input held status =
     ((status ≡ 6) × (held ≡ None) × IsNobody job general input)
     ⊎ IsMade (AnswersKnown job general input) (JobFacts job input) (JobFails job input) held status
-
--- Options are given. If they are none, that is misuse; else what is made is what this job for them answers
--- about the general.
-abbrev pub MakesAbout : (Wanted → Job) → ℕ → List ℕ → Option Wanted → Option Kept → ℕ → Type 0
-MakesAbout job general input None held status = IsMisuse held status
-MakesAbout job general input (Some wanted) held status = MakesKnown (job wanted) general input held status

@@ -1,6 +1,10 @@
+pub mod Among
+pub mod EnrollLines
 pub mod Handing
 pub mod Knowing
 pub mod Loops
 pub mod Making
 pub mod Options
 pub mod Owning
+pub mod RunFacts
+pub mod Systems

@@ -8,11 +8,10 @@ use Rattle.gen_ends.specs.Ends.{fault_status}
 use Rattle.gen_jobs.specs.Facts.{JobFacts}
 use Rattle.gen_ends.specs.FaultLines.{job_fault_line}
 use Rattle.gen_jobs.specs.Jobs.{JobAnswers, JobFails}
-use Rattle.gen_show.specs.Runs.{runs_as}
+use Rattle.gen_campaign.specs.FileRuns.{runs_as}
 use Rattle.gen_ends.specs.declared.ends.JobFault.{JobFault}
 use Rattle.gen_ends.specs.declared.ends.JobFault.TheVariants as faults
 use Rattle.sm_embed.specs.declared.kept.Kept.{Kept}
-use Rattle.sm_embed.specs.declared.options.Wanted.{Wanted}
 
 -- the number for the line of a fault: 7 for an input of another run, 3 for any other fault of the input, and
 -- None for want of memory, of a thread, of a read or of a write, which has no line
@@ -60,11 +59,6 @@ IsMisuse held status = (status ≡ 2) × (held ≡ None)
 abbrev pub MakesJob : Job → List ℕ → Option Kept → ℕ → Type 0
 MakesJob job input held status =
     IsMade (JobAnswers job None input) (JobFacts job input) (JobFails job input) held status
-
--- Options are given. If they are none, that is misuse; else what is made is what this job for them answers.
-abbrev pub MakesBy : (Wanted → Job) → List ℕ → Option Wanted → Option Kept → ℕ → Type 0
-MakesBy job input None held status = IsMisuse held status
-MakesBy job input (Some wanted) held status = MakesJob (job wanted) input held status
 
 -- the ids are held one after another, and no facts; if there are none, the number is 3, and nothing is held
 abbrev pub HoldsIds : Option (List (List ℕ)) → Option Kept → ℕ → Type 0

@@ -1,5 +1,5 @@
 -- What a caller in another language asks for.
-use Rattle.std.specs.Prelude.{ℕ, ◌==◌, not, if◌then◌else◌, Bool, List, [], ◌∷◌, Option, Some, None, option_map, option_and_then}
+use Rattle.std.specs.Prelude.{ℕ, ◌==◌, not, if◌then◌else◌, Bool, List, [], ◌∷◌, length, Option, Some, None, option_map, option_and_then}
 use Rattle.gen_asked.specs.AskedRuns.{few_runs}
 use Rattle.gen_asked.specs.declared.asked_runs.AskedRuns.{AskedRuns}
 use Rattle.gen_asked.specs.declared.asked_runs.AskedRuns.TheVariants.{Any}
@@ -28,17 +28,34 @@ form_in number = if number == 0 then Some Text else if number == 1 then Some Jso
 abbrev pub says_yes : ℕ → Bool
 says_yes number = not (number == 0)
 
--- what options ask for, if their runs are at most four, and their form is one
+-- the id of a system that bytes are: none for no bytes, and None for other than 32 bytes
+abbrev pub system_in : List ℕ → Option (Option (List ℕ))
+system_in bytes =
+    if length bytes == 0 then Some None else if length bytes == 32 then Some (Some bytes) else None
+
+-- The system that an admission must be of, if there is one, and one is asked for. None if ids of runs stand
+-- beside an admission, if a system stands there without one, and if it is no id.
+abbrev pub sought_in : SmOptions → Option (Option (List ℕ))
+sought_in options =
+    if length options.admission.now == 0
+    then (if length options.system.now == 0 then Some None else None)
+    else (if length options.runs.now == 0 then system_in options.system.now else None)
+
+-- what options ask for, if their runs are at most four, their form is one, and an admission and a system may
+-- stand there
 abbrev pub wanted_in : SmOptions → Option Wanted
 wanted_in options =
     option_and_then
-    (λ runs. option_map
-    (λ form. record {
+    (λ runs. option_and_then
+    (λ form. option_map
+    (λ system. record {
       runs = runs;
       strict = says_yes options.strict;
       form = form;
       receipts = says_yes options.receipts;
+      system = system;
     })
+    (sought_in options))
     (form_in options.form))
     (asked_in options.runs.now)
 

@@ -1,10 +1,12 @@
 //! Makes the answer of a job about a general, and tells if the general is no run's.
 ghost use Rattle.std.specs.Prelude.{◌≡◌, ◌<◌, ◌≤◌, IfSome};
 ghost use Rattle.gen_asked.specs.Ranges.{IsInRange};
-ghost use Rattle.sm_embed.specs.Knowing.{Knows, MakesAbout, MakesKnown, ReceiptsKnow, RunsKnow, is_known};
+ghost use Rattle.sm_embed.specs.Among.{MakesAbout, MakesAmongAbout, MakesKnownAsked};
+ghost use Rattle.sm_embed.specs.Knowing.{Knows, MakesKnown, ReceiptsKnow, RunsKnow, is_known};
 ghost use Rattle.sm_embed.specs.Making.{IsMisuse};
 ghost use Rattle.sm_embed.specs.Options.{job_about, wanted_in};
 
+use crate::among::keep_among;
 use crate::making::keep_job;
 use crate::numbers::{MEMORY, MISUSE, NO, NOBODY};
 use crate::opaque::SmAnswer;
@@ -96,6 +98,59 @@ fn keep_known(
     }
 }
 
+/// Makes the answer of a job about a general, of runs that an admission admits in the system with the id that is asked for,
+/// and returns the number that says what is held. It is 6, and nothing is held, if the general is none of the input's.
+/// What was held before is dropped first.
+fn keep_known_among(
+    alloc: Global,
+    job: &Job,
+    general: GeneralNo,
+    admission: &[u8],
+    system: Option<[u8; 32]>,
+    input: &[u8],
+    answer: &mut SmAnswer,
+) -> u32
+    requires { IsInRange job.now }
+    ensures { MakesAmongAbout job.now general admission.now system input.now answer.new.held result }
+{
+    let number = keep_among(alloc, *job, admission, system, input, answer);
+    if number > NO {
+        return number;
+    }
+    match knows(alloc, job, general, input) {
+        Some(true) => number,
+        Some(false) => {
+            answer.clear(alloc);
+            NOBODY
+        }
+        None => {
+            answer.clear(alloc);
+            MEMORY
+        }
+    }
+}
+
+/// Makes the answer of a job about a general, of runs that an admission admits if there is one, and returns the number that
+/// says what is held. What was held before is dropped first.
+fn keep_known_asked(
+    alloc: Global,
+    job: &Job,
+    general: GeneralNo,
+    admission: &[u8],
+    system: Option<[u8; 32]>,
+    input: &[u8],
+    answer: &mut SmAnswer,
+) -> u32
+    requires { IsInRange job.now }
+    ensures { MakesKnownAsked job.now general admission.now system input.now answer.new.held result }
+{
+    if admission.is_empty() {
+        keep_known(alloc, job, general, input, answer)
+    } else {
+        keep_known_among(alloc, job, general, admission, system, input, answer)
+    }
+}
+
 /// Makes the answer of a task about the general of a number, as options ask for it, and returns the number that says what
 /// is held. What was held before is dropped first.
 pub(crate) fn make_about(
@@ -107,7 +162,7 @@ pub(crate) fn make_about(
     answer: &mut SmAnswer,
 ) -> u32
     ensures general { general < 16 → MakesAbout (job_about task general) general input.now
-        (wanted_in options.now) answer.new.held result }
+        options.now.admission.now (wanted_in options.now) answer.new.held result }
     ensures nobody { 16 ≤ general → IsMisuse answer.new.held result }
 {
     answer.clear(alloc);
@@ -118,7 +173,8 @@ pub(crate) fn make_about(
     match wanted_in(options) {
         Some(wanted) => {
             let job = job_about(task, about, wanted);
-            keep_known(alloc, &job, about, input, answer)
+            let admission = options.admission;
+            keep_known_asked(alloc, &job, about, admission, wanted.system, input, answer)
         }
         None => MISUSE,
     }

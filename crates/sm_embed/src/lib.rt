@@ -8,11 +8,11 @@
 //! |---|---|
 //! | 0 | the text that the program writes, which doesn't say no, and its facts |
 //! | 1 | the text that the program writes, which says no, and its facts |
-//! | 2 | nothing: the number of a general is above 15, that of a form is above 1, or more than four runs are asked for |
+//! | 2 | nothing: the call may not be made so, as with a number of a general above 15, a form above 1, or more than four runs |
 //! | 3 | the line that names the input's fault, as the program writes it, without its LF |
 //! | 4 | nothing: memory was refused |
 //! | 6 | nothing: the general is none of the run's (`sm_accuse` and `sm_receipt` alone) |
-//! | 7 | the line that says that the input is of another run than the one that is asked for |
+//! | 7 | the line that says that the input is of another run or system than the one that is asked for |
 //!
 //! `sm_answer_text` and `sm_answer_facts` hand over what is held, as often as they are asked. At 0 it stands in the room,
 //! at 5 the room is shorter, and at 2 nothing is held.
@@ -31,12 +31,16 @@ ghost use Rattle.gen_making.specs.Joining.{IsReplyFault};
 ghost use Rattle.gen_net.specs.declared.version.Version.TheVariants.{One};
 ghost use Rattle.gen_prepare.specs.Answering.{IsAnswered};
 ghost use Rattle.sm_embed.specs.Handing.{Hands};
-ghost use Rattle.sm_embed.specs.Knowing.{MakesAbout};
-ghost use Rattle.sm_embed.specs.Making.{AreNone, HoldsRuns, IsMade, IsMisuse, MakesBy, MakesJob};
-ghost use Rattle.sm_embed.specs.Options.{job_about, job_of, wanted_in};
+ghost use Rattle.sm_embed.specs.Among.{MakesAbout, MakesBy};
+ghost use Rattle.sm_embed.specs.Making.{AreNone, HoldsRuns, IsMade, IsMisuse, MakesJob};
+ghost use Rattle.sm_embed.specs.Options.{job_about, job_of, system_in, wanted_in};
+ghost use Rattle.sm_embed.specs.Systems as made;
+ghost use Rattle.sm_embed.specs.Systems.{MakesAdmission, MakesGiven, MakesHeader, MakesOf};
 ghost use Rattle.sm_embed.specs.declared.options.GeneralTask.TheVariants as abouts;
 ghost use Rattle.sm_embed.specs.declared.options.Task.TheVariants as tasks;
 
+mod among;
+mod enroll_lines;
 mod handing;
 mod kept;
 mod knowing;
@@ -45,19 +49,26 @@ mod making;
 mod numbers;
 mod opaque;
 mod options;
+mod run_facts;
+mod systems;
 
+use crate::among::make;
 use crate::handing::put;
 use crate::kept::Kept;
 use crate::knowing::make_about;
-use crate::making::{hold, keep, keep_job, make};
+use crate::making::{hold, keep, keep_job};
 use crate::numbers::{DONE, FAULT, MEMORY, MISUSE};
 use crate::opaque::SmAnswer;
-use crate::options::{GeneralTask, SmOptions, Task};
+use crate::options::{GeneralTask, SmOptions, Task, system_in};
+use crate::systems::{
+    SmRoots, admission_made, are_nodes, file_made, header_made, height_in, identity_made,
+    keep_made, proposer_in, system_made,
+};
 use gen_asked::{Job, Telling};
+use gen_campaign::file_runs;
 use gen_facts::Fact;
 use gen_jobs::{Answered, answer_evidence};
 use gen_net::Version;
-use gen_show::file_runs;
 use std::alloc::Global;
 
 /// Makes the answer of the verdict on the bundle or the campaign that the input spells, as the command `audit` writes it.
@@ -69,7 +80,8 @@ pub extern "C" fn sm_audit(
     options: &SmOptions,
     answer: &mut SmAnswer,
 ) -> u32
-    ensures { MakesBy (job_of tasks.Audit) input.now (wanted_in options.now) answer.new.held result }
+    ensures { MakesBy (job_of tasks.Audit) input.now options.now.admission.now (wanted_in options.now)
+        answer.new.held result }
 {
     make(alloc, Task::Audit, input, options, answer)
 }
@@ -83,7 +95,8 @@ pub extern "C" fn sm_draw(
     options: &SmOptions,
     answer: &mut SmAnswer,
 ) -> u32
-    ensures { MakesBy (job_of tasks.Draw) input.now (wanted_in options.now) answer.new.held result }
+    ensures { MakesBy (job_of tasks.Draw) input.now options.now.admission.now (wanted_in options.now)
+        answer.new.held result }
 {
     make(alloc, Task::Draw, input, options, answer)
 }
@@ -101,7 +114,7 @@ pub extern "C" fn sm_accuse(
     answer: &mut SmAnswer,
 ) -> u32
     ensures general { general < 16 → MakesAbout (job_about abouts.Accuse general) general input.now
-        (wanted_in options.now) answer.new.held result }
+        options.now.admission.now (wanted_in options.now) answer.new.held result }
     // The number is 16 or more, so it is no general's.
     ensures nobody { 16 ≤ general → IsMisuse answer.new.held result }
 {
@@ -117,7 +130,8 @@ pub extern "C" fn sm_evidence(
     options: &SmOptions,
     answer: &mut SmAnswer,
 ) -> u32
-    ensures { MakesBy (job_of tasks.Evidence) input.now (wanted_in options.now) answer.new.held result }
+    ensures { MakesBy (job_of tasks.Evidence) input.now options.now.admission.now (wanted_in options.now)
+        answer.new.held result }
 {
     make(alloc, Task::Evidence, input, options, answer)
 }
@@ -134,7 +148,7 @@ pub extern "C" fn sm_receipt(
     answer: &mut SmAnswer,
 ) -> u32
     ensures general { general < 16 → MakesAbout (job_about abouts.Receipt general) general input.now
-        (wanted_in options.now) answer.new.held result }
+        options.now.admission.now (wanted_in options.now) answer.new.held result }
     // The number is 16 or more, so it is no general's.
     ensures nobody { 16 ≤ general → IsMisuse answer.new.held result }
 {
@@ -151,7 +165,8 @@ pub extern "C" fn sm_receipts(
     options: &SmOptions,
     answer: &mut SmAnswer,
 ) -> u32
-    ensures { MakesBy (job_of tasks.Receipts) input.now (wanted_in options.now) answer.new.held result }
+    ensures { MakesBy (job_of tasks.Receipts) input.now options.now.admission.now (wanted_in options.now)
+        answer.new.held result }
 {
     make(alloc, Task::Receipts, input, options, answer)
 }
@@ -165,7 +180,8 @@ pub extern "C" fn sm_decide(
     options: &SmOptions,
     answer: &mut SmAnswer,
 ) -> u32
-    ensures { MakesBy (job_of tasks.Decide) input.now (wanted_in options.now) answer.new.held result }
+    ensures { MakesBy (job_of tasks.Decide) input.now options.now.admission.now (wanted_in options.now)
+        answer.new.held result }
 {
     make(alloc, Task::Decide, input, options, answer)
 }
@@ -203,7 +219,8 @@ pub extern "C" fn sm_show(
     options: &SmOptions,
     answer: &mut SmAnswer,
 ) -> u32
-    ensures { MakesBy (job_of tasks.Show) input.now (wanted_in options.now) answer.new.held result }
+    ensures { MakesBy (job_of tasks.Show) input.now options.now.admission.now (wanted_in options.now)
+        answer.new.held result }
 {
     make(alloc, Task::Show, input, options, answer)
 }
@@ -256,6 +273,110 @@ pub extern "C" fn sm_run_id(alloc: Global, input: &[u8], answer: &mut SmAnswer) 
             hold(alloc, Kept { text, facts }, DONE, answer)
         }
         Err(_) => MEMORY,
+    }
+}
+
+/// Makes the answer of the file of the roots of all sets of a secret, as the command `enroll` writes it, in the caller's
+/// thread. It returns 2, and nothing is held, if the version is neither 1 nor 2, or if there are more than 20 levels.
+#[tactic(auto, using(crate::proofs::Made::is_given))]
+#[unsafe(no_mangle)]
+pub extern "C" fn sm_enroll(
+    alloc: Global,
+    version: u32,
+    levels: u32,
+    secret: &[u8],
+    answer: &mut SmAnswer,
+) -> u32
+    ensures { MakesOf (λ height. made.file_made height levels secret.now)
+        (made.height_in version levels) answer.new.held result }
+{
+    answer.clear(alloc);
+    let Some(height) = height_in(version, levels) else {
+        return MISUSE;
+    };
+    let file = file_made(alloc, height, levels as u8, secret);
+    keep_made(alloc, file, answer)
+}
+
+/// Makes the answer of the identity over a file of roots, as the command `identity` writes it.
+#[tactic(auto, using(crate::proofs::Made::is_given))]
+#[unsafe(no_mangle)]
+pub extern "C" fn sm_identity(alloc: Global, roots: &[u8], answer: &mut SmAnswer) -> u32
+    ensures { MakesGiven (made.identity_made roots.now) answer.new.held result }
+{
+    answer.clear(alloc);
+    keep_made(alloc, identity_made(alloc, roots), answer)
+}
+
+/// Makes the answer of the system of the text of a header, as the command `system` writes it. Nodes propose in turns, unless
+/// `turns` is 0. The fact is the id of the system. It returns 2, and nothing is held, if the version is neither 1 nor 2, or
+/// if there are more than 20 levels.
+#[tactic(auto, using(crate::proofs::Made::is_given))]
+#[unsafe(no_mangle)]
+pub extern "C" fn sm_system(
+    alloc: Global,
+    version: u32,
+    levels: u32,
+    turns: u32,
+    context: &[u8; 32],
+    text: &[u8],
+    answer: &mut SmAnswer,
+) -> u32
+    ensures { MakesOf (λ height. made.system_made height (made.proposer_in turns) levels context.now text.now)
+        (made.height_in version levels) answer.new.held result }
+{
+    answer.clear(alloc);
+    let Some(height) = height_in(version, levels) else {
+        return MISUSE;
+    };
+    let proposer = proposer_in(turns);
+    let system = system_made(alloc, height, proposer, levels as u8, *context, text);
+    keep_made(alloc, system, answer)
+}
+
+/// Makes the answer of the admission of the set of the run with this number, as the command `admission` writes it, from a
+/// system and the file of roots of each node. The fact is the number of the run with the id of the system. It returns 2,
+/// and nothing is held, if the number of a node is above 15.
+#[tactic(auto, using(crate::proofs::Made::is_held))]
+#[unsafe(no_mangle)]
+pub extern "C" fn sm_admission(
+    alloc: Global,
+    run: u32,
+    system: &[u8],
+    files: &[SmRoots<'_>],
+    answer: &mut SmAnswer,
+) -> u32
+    ensures { MakesAdmission run system.now files.now answer.new.held result }
+{
+    answer.clear(alloc);
+    if !are_nodes(files) {
+        return MISUSE;
+    }
+    keep_made(alloc, admission_made(alloc, run, system, files), answer)
+}
+
+/// Makes the answer of the header of the run with this number, as the command `admit` writes it, in the system with the id
+/// that is expected, or in any for no bytes. The facts are the number of the run with the id of the system, and the node
+/// that each general is. It returns 2, and nothing is held, for an id of other than 0 or 32 bytes, and 7 with the line of
+/// the fault if the admission is of another system.
+#[tactic(auto, using(crate::proofs::Made::is_held))]
+#[unsafe(no_mangle)]
+pub extern "C" fn sm_admit(
+    alloc: Global,
+    run: u32,
+    admission: &[u8],
+    system: &[u8],
+    answer: &mut SmAnswer,
+) -> u32
+    ensures { MakesHeader run (system_in system.now) admission.now answer.new.held result }
+{
+    answer.clear(alloc);
+    match system_in(system) {
+        Some(wanted) => {
+            let header = header_made(alloc, run, wanted, admission);
+            keep_made(alloc, header, answer)
+        }
+        None => MISUSE,
     }
 }
 

@@ -2,13 +2,11 @@
 ghost use Rattle.std.specs.Prelude.{◌≡◌, IfSome, None};
 ghost use Rattle.gen_asked.specs.Ranges.{IsInRange};
 ghost use Rattle.sm_embed.specs.Loops.Keeping.{HoldsIt, IsKept, Keeps};
-ghost use Rattle.sm_embed.specs.Making.{MakesBy, MakesJob, line_number};
-ghost use Rattle.sm_embed.specs.Options.{job_of, wanted_in};
+ghost use Rattle.sm_embed.specs.Making.{MakesJob, line_number};
 
 use crate::kept::Kept;
-use crate::numbers::{DONE, FAULT, MEMORY, MISUSE, NO, OTHER_RUN};
+use crate::numbers::{DONE, FAULT, MEMORY, NO, OTHER_RUN};
 use crate::opaque::SmAnswer;
-use crate::options::{SmOptions, Task, job_of, wanted_in};
 use gen_asked::Job;
 use gen_jobs::{Answered, JobFault, answer_in_place, job_fault_line};
 use std::alloc::Global;
@@ -90,24 +88,4 @@ pub(crate) fn keep_job(alloc: Global, job: Job, input: &[u8], answer: &mut SmAns
 {
     answer.clear(alloc);
     keep(alloc, answer_in_place(alloc, job, None, input), answer)
-}
-
-/// Makes the answer of a task to an input, as options ask for it, and returns the number that says what is held. What was
-/// held before is dropped first.
-pub(crate) fn make(
-    alloc: Global,
-    task: Task,
-    input: &[u8],
-    options: &SmOptions,
-    answer: &mut SmAnswer,
-) -> u32
-    ensures { MakesBy (job_of task) input.now (wanted_in options.now) answer.new.held result }
-{
-    match wanted_in(options) {
-        Some(wanted) => keep_job(alloc, job_of(task, wanted), input, answer),
-        None => {
-            answer.clear(alloc);
-            MISUSE
-        }
-    }
 }

@@ -1,7 +1,7 @@
 //! What a caller in another language asks for.
 ghost use Rattle.std.specs.Prelude.{◌≡◌};
 ghost use Rattle.gen_asked.specs.Ranges.{IsInRange};
-ghost use Rattle.sm_embed.specs.Options.{job_about, job_of, wanted_in};
+ghost use Rattle.sm_embed.specs.Options.{job_about, job_of, sought_in, system_in, wanted_in};
 
 use gen_asked::{Asked, AskedRuns, Faulty, Form, Job};
 use gen_audit::WorkerCount;
@@ -19,6 +19,11 @@ pub struct SmOptions<'a> {
     pub form: u32,
     /// Whether a general is accused by receipts, and not by a bundle or a campaign: not if it is 0.
     pub receipts: u32,
+    /// The bytes of an admission, of whose set the runs of the input must be; none if there are no runs to be asked for so.
+    /// They stand in the place of the ids of runs.
+    pub admission: &'a [u8],
+    /// The id of the system that the admission must be of; no bytes for any system.
+    pub system: &'a [u8],
 }
 
 /// What options ask for.
@@ -32,6 +37,8 @@ pub struct Wanted {
     pub form: Form,
     /// Whether a general is accused by receipts, and not by a bundle or a campaign.
     pub receipts: bool,
+    /// The system that the admission must be of, if there is one, and one is asked for.
+    pub system: Option<[u8; 32]>,
 }
 
 /// A task that takes options. Each uses those that its job has.
@@ -60,7 +67,39 @@ pub enum GeneralTask {
     Receipt,
 }
 
-/// Returns what options ask for; None for more than four runs, and for a form that is none.
+/// Returns the id of a system that bytes are: none for no bytes. None for other than 32 bytes.
+pub(crate) fn system_in(bytes: &[u8]) -> Option<Option<[u8; 32]>>
+    ensures { result ≡ system_in bytes.now }
+{
+    if bytes.is_empty() {
+        return Some(None);
+    }
+    match <[u8; 32]>::try_from(bytes) {
+        Ok(id) => Some(Some(id)),
+        Err(_) => None,
+    }
+}
+
+/// Returns the system that the admission of options must be of, if there is one, and one is asked for. None if ids of runs
+/// stand beside an admission, if a system stands there without one, and if it is no id.
+fn sought_in(options: &SmOptions) -> Option<Option<[u8; 32]>>
+    ensures { result ≡ sought_in options.now }
+{
+    if !options.admission.is_empty() {
+        if options.runs.is_empty() {
+            system_in(options.system)
+        } else {
+            None
+        }
+    } else if options.system.is_empty() {
+        Some(None)
+    } else {
+        None
+    }
+}
+
+/// Returns what options ask for; None for more than four runs, for a form that is none, and for a system or an admission
+/// that may not stand there.
 pub(crate) fn wanted_in(options: &SmOptions) -> Option<Wanted>
     ensures { result ≡ wanted_in options.now }
 {
@@ -77,11 +116,13 @@ pub(crate) fn wanted_in(options: &SmOptions) -> Option<Wanted>
         1 => Form::Json,
         _ => return None,
     };
+    let system = sought_in(options)?;
     Some(Wanted {
         runs,
         strict: options.strict != 0,
         form,
         receipts: options.receipts != 0,
+        system,
     })
 }
 
@@ -95,6 +136,7 @@ pub(crate) fn job_of(task: Task, wanted: Wanted) -> Job
         strict,
         form,
         receipts: _,
+        system: _,
     } = wanted;
     let workers = WorkerCount::one();
     let asked = Asked {

@@ -1,5 +1,6 @@
 pub mod Asking
 pub mod Bundles
+pub mod Clock
 pub mod Driving
 pub mod EndedNode
 pub mod Faults
@@ -11,4 +12,5 @@ pub mod Owning
 pub mod Plans
 pub mod Shown
 pub mod Starting
+pub mod States
 pub mod NodeReply

@@ -11,7 +11,7 @@
 //! | 3 | what was handed in has a fault, whose number is told, and nothing was changed |
 //! | 4 | memory was refused: the same call may be made again |
 //! | 5 | the room is too short, and the length that is needed is told; nothing was changed |
-//! | 7 | what was handed in is of another run |
+//! | 7 | what was handed in is of another run or system |
 //!
 //! No function keeps anything outside the node that it was handed, starts a thread, waits for one, prints, or ends the
 //! process. The contract of each function says what each `NodeReply` means for it, and what goes with it, as `Begins` does.
@@ -20,6 +20,7 @@
 ghost use Rattle.std.specs.Prelude.{◌≡◌, ◌<◌, ◌≤◌, None};
 ghost use Rattle.sm_node.specs.Asking.{Tells};
 ghost use Rattle.sm_node.specs.Bundles.{HandsBundle, logs_in, walks_by};
+ghost use Rattle.sm_node.specs.Clock.{TellsNext, mark_of};
 ghost use Rattle.sm_node.specs.Driving.{Begins, Ends, Finishes, HandsLog, HandsReceipt, Hears, Sends, TellsOrder};
 ghost use Rattle.sm_node.specs.Handing.{IsUntouched};
 ghost use Rattle.sm_node.specs.Headers.{header_given, MakesHeader};
@@ -27,10 +28,12 @@ ghost use Rattle.sm_node.specs.Heads.{TellsHead};
 ghost use Rattle.sm_node.specs.Plans.{TellsMost, TellsNeighbours, TellsNumbers, TellsRounds, TellsRunId};
 ghost use Rattle.sm_node.specs.Shown.{IsAnswered, TellsShown};
 ghost use Rattle.sm_node.specs.Starting.{MakesKeys, Starts};
+ghost use Rattle.sm_node.specs.States.{Advances, IsFirstRecord, IsSetOf, MakesSeed};
 ghost use Rattle.sm_node.specs.NodeReply.{IsTold};
 
 mod asking;
 mod bundles;
+mod clock;
 mod ended;
 mod faults;
 mod handing;
@@ -42,10 +45,12 @@ mod opaque;
 mod plans;
 mod shown;
 mod starting;
+mod states;
 mod told;
 
 use crate::asking::{Question, ask};
 use crate::bundles::{BundleWalks, SmLog, hand_bundle};
+use crate::clock::{NO_RUN, mark_of};
 use crate::faults::SmPair;
 use crate::headers::{SmNumbers, make_header};
 use crate::heads::{SmFrameHead, tell_head};
@@ -53,8 +58,12 @@ use crate::opaque::SmNode;
 use crate::plans::{numbers_of, with_header};
 use crate::shown::tell_shown;
 use crate::starting::{NUMBERS, make_keys, start};
-use crate::told::MISUSE;
+use crate::states::state_of;
+use crate::told::{DONE, MISUSE, NO, OTHER};
+use gen_identity::NumberedState;
+use gen_identity::sizes::STATE_BYTES;
 use gen_net::Header;
+use gen_node::Timetable;
 use gen_plan::frame_most;
 use gen_types::GeneralNo;
 use std::alloc::Global;
@@ -295,6 +304,94 @@ pub extern "C" fn sm_node_version() -> u32
     ensures { result ≡ 2000 }
 {
     2000
+}
+
+/// Makes the record of the state of set 0 of a secret, which serves the system with this id.
+#[unsafe(no_mangle)]
+pub extern "C" fn sm_node_state(
+    secret: &[u8; 32],
+    system: &[u8; 32],
+    state: &mut [u8; STATE_BYTES],
+) -> u32
+    ensures number { result ≡ 0 }
+    ensures record { IsFirstRecord secret.now system.now state.new }
+{
+    let first = NumberedState::first(*secret, *system);
+    *state = first.to_bytes();
+    DONE
+}
+
+/// Tells the number of the set of a record.
+#[unsafe(no_mangle)]
+pub extern "C" fn sm_node_state_set(state: &[u8; STATE_BYTES], set: &mut u32) -> u32
+    ensures number { result ≡ 0 }
+    ensures set { IsSetOf state.now set.new }
+{
+    *set = state_of(state).number();
+    DONE
+}
+
+/// Makes the seed of the set of a record for the system with this id. It returns 0, or 7 if the record serves another
+/// system, and what was in `seed` stays.
+#[unsafe(no_mangle)]
+pub extern "C" fn sm_node_state_seed(
+    state: &[u8; STATE_BYTES],
+    system: &[u8; 32],
+    seed: &mut [u8; 32],
+) -> u32
+    ensures { MakesSeed state.now system.now seed.old seed.new result }
+{
+    match state_of(state).seed(system) {
+        Some(made) => {
+            *seed = made;
+            DONE
+        }
+        None => OTHER,
+    }
+}
+
+/// Puts the record of a later set, or of the same, in the place of a record. It returns 0, or 2 if the set is an earlier
+/// one, and the record stays. No seed of an earlier set can be made of the new record.
+#[unsafe(no_mangle)]
+pub extern "C" fn sm_node_state_advance(state: &mut [u8; STATE_BYTES], set: u32) -> u32
+    ensures { Advances set state.old state.new result }
+{
+    let own = state_of(state);
+    if set < own.number() {
+        return MISUSE;
+    }
+    *state = own.advance_to(set).to_bytes();
+    DONE
+}
+
+/// Tells the run of a system that a node begins next, and when it begins, by when run 0 begins and the period from the
+/// beginning of a run to that of the next. The mark is the number of the newest run that the node has begun, or 4294967295
+/// if there is none. The next run is the least above the mark that begins now or later. It returns 0, or 1 if there is no
+/// such run; then 4294967295 and 0 are told.
+#[unsafe(no_mangle)]
+pub extern "C" fn sm_node_next_run(
+    now: i64,
+    start: i64,
+    period: u64,
+    mark: u32,
+    run: &mut u32,
+    begins: &mut i64,
+) -> u32
+    ensures { TellsNext (record { start = start; period = period }) now (mark_of mark) run.new begins.new result }
+{
+    let timetable = Timetable { start, period };
+    match timetable.next_run(now, mark_of(mark)) {
+        Some(next) => {
+            *run = next.number;
+            *begins = next.begins;
+            DONE
+        }
+        None => {
+            *run = NO_RUN;
+            *begins = 0;
+            NO
+        }
+    }
 }
 
 /// Tells the numbers of the header that the bytes are.

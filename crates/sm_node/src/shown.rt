@@ -5,6 +5,7 @@ ghost use Rattle.sm_node.specs.Faults as numbers;
 ghost use Rattle.sm_node.specs.Shown.{TellsShown, shown_status};
 
 use crate::starting::NO_ORDER;
+use crate::told::{NO, OTHER};
 use gen_net::Header;
 use gen_receipt::{ReceiptFault, only_order, read_receipts};
 use gen_types::ReadError;
@@ -32,10 +33,10 @@ impl ShownReply {
     {
         match self {
             ShownReply::Shown => 0,
-            ShownReply::NotShown => 1,
+            ShownReply::NotShown => NO,
             ShownReply::Fault => 3,
             ShownReply::Memory => 4,
-            ShownReply::OtherRun => 7,
+            ShownReply::OtherRun => OTHER,
         }
     }
 }

@@ -17,8 +17,17 @@ pub enum NodeReply {
     Length,
 }
 
+/// The number that says that it was done.
+pub(crate) const DONE: u32 = 0;
+
+/// The number that says that it was done, and that the answer is a no.
+pub(crate) const NO: u32 = 1;
+
 /// The number that says that the call may not be made in this way.
 pub(crate) const MISUSE: u32 = 2;
+
+/// The number that says that what was handed in is of another run or system.
+pub(crate) const OTHER: u32 = 7;
 
 impl NodeReply {
     /// Returns the number that the call returns.
@@ -26,7 +35,7 @@ impl NodeReply {
         ensures { result ≡ status_of self }
     {
         match self {
-            NodeReply::Done => 0,
+            NodeReply::Done => DONE,
             NodeReply::Misuse => MISUSE,
             NodeReply::Fault => 3,
             NodeReply::Memory => 4,

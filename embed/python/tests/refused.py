@@ -13,6 +13,7 @@ import vamuretu
 from vamuretu import _libraries
 
 from .support import ALL, EXAMPLES, drive, seed_of
+from .test_systems import CONTEXT, LEVELS, SECRETS, System
 
 
 class Refusing:
@@ -82,6 +83,10 @@ class Refused(unittest.TestCase):
         receipts = b"".join(vamuretu.receipt(general, bundle) for general in range(3))
         cases += [(vamuretu.receipt, 1, bundle), (vamuretu.receipts, receipts), (vamuretu.receipts_json, receipts)]
         cases += [(vamuretu.run_ids, it) for it in (bundle, found, vamuretu.evidence(found).header.data)]
+        own = System(1)
+        cases += [(vamuretu.enroll, SECRETS[0], 1, 1), (vamuretu.identity, own.roots[0]), (vamuretu.admit, 1, own.admission)]
+        cases += [(vamuretu.system, own.text, LEVELS, 1, CONTEXT), (vamuretu.admission, 1, own.bytes, list(enumerate(own.roots)))]
+        cases += [(vamuretu.system_runs, vamuretu.admit(1, own.admission).header.data, own.admission)]
         for call, *words in cases:
             with self.subTest(call.__name__):
                 self.assertEqual(until_done(call, *words), call(*words))

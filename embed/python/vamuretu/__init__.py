@@ -4,12 +4,17 @@ The work is done by two shared libraries, libsm_embed.so and libsm_node.so, whic
 says where they are looked for, and docs/EMBED.md of the sources what each call does.
 """
 
-from ._faults import EqualRoots, InputFault, LibraryMissing, Misuse, Nobody, NodeFault, NoWalk, OtherRun
+from ._clock import NextRun, next_run
+from ._faults import EqualRoots, InputFault, LibraryMissing, Misuse, Nobody, NodeFault, NoWalk, OlderState, OtherRun
+from ._faults import OtherSystem, StateFault, UsedSet
 from ._headers import Header, header, read_header
 from ._jobs import Evidence, accuse, audit, audit_json, decide, decide_json, draw, evidence, evidence_json, explain
 from ._jobs import plan, receipt, receipts, receipts_json, refute, run_ids, show, show_json, words
+from ._kept import KeptState
 from ._libraries import use_libraries, version
 from ._nodes import FrameHead, Keys, Node, bundle, frame_head, root, shown
+from ._states import SetState
+from ._systems import Admitted, admission, admit, enroll, identity, system, system_id, system_runs
 from ._verdicts import (
     AcrossConviction,
     CampaignVerdict,
@@ -22,11 +27,13 @@ from ._verdicts import (
     Receipts,
     RunDecision,
     Status,
+    SystemRun,
     Verdict,
 )
 
 __all__ = [
     "AcrossConviction",
+    "Admitted",
     "CampaignVerdict",
     "Conviction",
     "Decision",
@@ -37,32 +44,45 @@ __all__ = [
     "Header",
     "InputFault",
     "Judgement",
+    "KeptState",
     "Keys",
     "Kind",
     "LibraryMissing",
     "Misuse",
+    "NextRun",
     "NoWalk",
     "Nobody",
     "Node",
     "NodeFault",
+    "OlderState",
     "OtherRun",
+    "OtherSystem",
     "Receipt",
     "Receipts",
     "RunDecision",
+    "SetState",
+    "StateFault",
     "Status",
+    "SystemRun",
+    "UsedSet",
     "Verdict",
     "accuse",
+    "admission",
+    "admit",
     "audit",
     "audit_json",
     "bundle",
     "decide",
     "decide_json",
     "draw",
+    "enroll",
     "evidence",
     "evidence_json",
     "explain",
     "frame_head",
     "header",
+    "identity",
+    "next_run",
     "plan",
     "read_header",
     "receipt",
@@ -74,6 +94,9 @@ __all__ = [
     "show",
     "show_json",
     "shown",
+    "system",
+    "system_id",
+    "system_runs",
     "use_libraries",
     "version",
     "words",

@@ -157,6 +157,10 @@ class OtherRun(InputFault):
     """The input is of another run than the one that is expected. `line` is `fault R1`."""
 
 
+class OtherSystem(OtherRun):
+    """An admission, or a state, is of another system than the one that is expected. `line` is `fault A11`."""
+
+
 class Misuse(RuntimeError):
     """The call is not allowed here, or a number is out of its range. Nothing was changed: the calling program has a
     mistake, unless it was to hear a frame that came after the node had ended.
@@ -165,6 +169,38 @@ class Misuse(RuntimeError):
 
 class Nobody(Misuse):
     """The node (general) that is to be accused, or whose receipt is asked for, is none of the run's."""
+
+
+class StateFault(RuntimeError):
+    """A kept state gives no seed: a file is no whole record, is of another system, or others may use it. No seed was handed
+    out.
+    """
+
+
+class OlderState(StateFault):
+    """The state is older than its mark: it was restored from an old image, or the secret was put in its place. The seeds of
+    the sets between may have signed. `number` is the number of the state, and `mark` that of the mark.
+    """
+
+    def __init__(self, number: int, mark: int) -> None:
+        super().__init__(f"the state is of set {number}, and its mark of set {mark}")
+        self.number = number
+        self.mark = mark
+
+    def __reduce__(self) -> Tuple[type, Tuple[int, int]]:
+        return OlderState, (self.number, self.mark)
+
+
+class UsedSet(StateFault):
+    """The seed of the set was handed out, or passed over. `next` is the least set whose seed may still be handed out."""
+
+    def __init__(self, set: int, next: int) -> None:
+        super().__init__(f"the seed of set {set} is used: the next set is {next}")
+        self.set = set
+        self.next = next
+
+    def __reduce__(self) -> Tuple[type, Tuple[int, int]]:
+        return UsedSet, (self.set, self.next)
 
 
 class LibraryMissing(OSError):

@@ -5,21 +5,29 @@ from __future__ import annotations
 import ctypes
 import json
 from dataclasses import dataclass
-from typing import Any, Iterable, Optional, Tuple
+from typing import Any, Iterable, List, NamedTuple, Optional, Tuple
 
-from ._faults import InputFault, Misuse, Nobody, OtherRun
+from ._faults import InputFault, Misuse, Nobody, OtherRun, OtherSystem
 from ._headers import Header, after_mark
-from ._libraries import JOBS, RUN_ID_BYTES, Bytes, Options, RunId, as_bytes, held, library, number, run_id_of
-from ._verdicts import Judgement, Receipts, RunDecision, decisions_of, judgement_of, receipts_of
+from ._libraries import JOBS, RUN_ID_BYTES, Bytes, Fact, Options, RunId, SystemId, as_bytes, held, library, number
+from ._libraries import run_id_of, system_id_of
+from ._verdicts import Judgement, Receipts, RunDecision, SystemRun, decisions_of, judgement_of, receipts_of
 
 YES, NO, MISUSE, FAULT, MEMORY = range(5)
 NOBODY, OTHER_RUN = 6, 7
 # The forms of an answer.
 TEXT, JSON = 0, 1
+# The line of an admission of another system than the one that is expected.
+OTHER_SYSTEM = "fault A11"
 RUNS_MOST = 4
 MARK_BYTES = 4
+# What may be expected: the run ids or the run id, an admission, and the id of its system.
+Runs, Run = Optional[Iterable[RunId]], Optional[RunId]
+Admission, System = Optional[Bytes], Optional[SystemId]
 # The kind of evidence that has the header of another run.
 ACROSS = 5
+# The kinds of facts of an admission.
+FACT_SYSTEM, FACT_NODE = 10, 11
 
 
 @dataclass(frozen=True)
@@ -38,100 +46,151 @@ class Evidence:
     holds: bool
 
 
-def _checked(job: str, status: int, text: bytes) -> Tuple[bool, bytes]:
-    """Whether the answer of a job is a no, and its text."""
+def _checked(job: str, status: int, text: bytes, facts: List[Fact]) -> Tuple[bool, bytes, List[Fact]]:
+    """Whether the answer of a job is a no, its text, and its facts."""
     if status == FAULT:
         raise InputFault(text.decode("ascii"))
     if status == OTHER_RUN:
-        raise OtherRun(text.decode("ascii"))
+        line = text.decode("ascii")
+        raise OtherSystem(line) if line == OTHER_SYSTEM else OtherRun(line)
     if status == MEMORY:
         raise MemoryError(f"sm_{job}: memory was refused")
     if status == NOBODY:
         raise Nobody(f"sm_{job}: the general is none of the run's")
     if status not in (YES, NO):
         raise Misuse(f"sm_{job}: the call is not allowed here")
-    return status == NO, text
+    return status == NO, text, facts
+
+
+def answered(job: str, *words: Any) -> Tuple[bool, bytes, List[Fact]]:
+    """The answer of a job on words: whether it is a no, its text, and its facts."""
+    function = getattr(library(JOBS), f"sm_{job}")
+    return _checked(job, *held(JOBS, lambda answer: int(function(*words, answer))))
 
 
 def _made(job: str, given: Bytes, *behind: Any, general: Tuple[int, ...] = ()) -> Tuple[bool, bytes]:
     """The answer of a job on an input. Options or a second input stand behind the input, and a general before it."""
-    data, function = as_bytes(given), getattr(library(JOBS), f"sm_{job}")
-    return _checked(job, *held(JOBS, lambda answer: int(function(*general, data, len(data), *behind, answer))))
+    data = as_bytes(given)
+    return answered(job, *general, data, len(data), *behind)[:2]
 
 
-def _options(runs: Optional[Iterable[RunId]] = None, form: int = TEXT, receipts: bool = False) -> Any:
-    """The options with the run ids that are expected, of None none, so any run is taken, with a form, and whether the
-    input is receipts.
-    """
-    if runs is None:
-        return ctypes.byref(Options(b"", 0, 0, form, receipts))
-    # A text is no list of run ids. The library takes any run for an empty list, which a caller may have by mistake.
-    if isinstance(runs, (str, bytes, bytearray, memoryview)):
-        raise Misuse("runs is a list of run ids, and not one of them")
-    ids = [run_id_of(it) for it in runs]
-    if not 1 <= len(ids) <= RUNS_MOST:
-        raise Misuse(f"{len(ids)} runs are expected, and not 1 to {RUNS_MOST}: for any run leave runs out")
-    return ctypes.byref(Options(b"".join(ids), len(ids), 0, form, receipts))
+def runs_of(facts: List[Fact]) -> Tuple[SystemRun, ...]:
+    """The runs of a system that facts tell."""
+    nodes = [(it.run, it.other) for it in facts if it.kind == FACT_NODE]
+    return tuple(
+        SystemRun(bytes(it.run_id).hex(), it.number, tuple(node for run, node in nodes if run == it.run))
+        for it in facts
+        if it.kind == FACT_SYSTEM
+    )
 
 
-def _of_one(run: Optional[RunId]) -> Optional[Tuple[RunId]]:
-    """The list of the run id that is expected, if there is one."""
-    return None if run is None else (run,)
+class Expected(NamedTuple):
+    """What an input is expected to be of: runs, or what an admission of a system admits. Of nothing any run is taken."""
+
+    runs: Runs
+    admission: Admission
+    system: System
+
+    def ids(self) -> List[bytes]:
+        """The run ids."""
+        if self.runs is None:
+            return []
+        # A text is no list of run ids. The library takes any run for an empty list, which a caller may have by mistake.
+        if isinstance(self.runs, (str, bytes, bytearray, memoryview)):
+            raise Misuse("runs is a list of run ids, and not one of them")
+        ids = [run_id_of(it) for it in self.runs]
+        if not 1 <= len(ids) <= RUNS_MOST:
+            raise Misuse(f"{len(ids)} runs are expected, and not 1 to {RUNS_MOST}: for any run leave runs out")
+        return ids
+
+    def options(self, form: int = TEXT, receipts: bool = False) -> Any:
+        """The options that ask for it, with a form, and whether the input is receipts."""
+        ids, admission = self.ids(), b"" if self.admission is None else as_bytes(self.admission)
+        if self.admission is not None and (ids or not admission):
+            raise Misuse("run ids stand beside an admission, or it has no bytes: expect one of both")
+        system = b"" if self.system is None else system_id_of(self.system)
+        if system and not admission:
+            raise Misuse("the id of a system is expected without an admission")
+        of_system = {"admission": admission, "admission_bytes": len(admission), "system": system, "system_bytes": len(system)}
+        return ctypes.byref(Options(b"".join(ids), len(ids), 0, form, receipts, **of_system))
 
 
-def audit(given: Bytes, *, runs: Optional[Iterable[RunId]] = None) -> Judgement:
+ANY = Expected(None, None, None)
+
+
+def of_one(run: Run, admission: Admission, system: System) -> Expected:
+    """The same of a run that may be expected."""
+    return Expected(None if run is None else (run,), admission, system)
+
+
+def audit(given: Bytes, *, runs: Runs = None, admission: Admission = None, system: System = None) -> Judgement:
     """The verdict on a bundle or a campaign. Its str() is the text that `sm_tool audit` writes.
 
     With `runs`, the input must be of these runs: of a campaign those of all its runs in their order. If it is of others,
     OtherRun is raised. Without `runs` an input of any run is judged, and an empty list is Misuse.
+
+    With `admission` in place of `runs`, the input must be of runs of the set of this admission, and the admission of the
+    system whose id is `system`, or else OtherSystem is raised. Without `system` anybody's admission counts. Each verdict then has its `system_run`, and
+    str() is the text behind the lines on the system.
     """
-    return judgement_of(json.loads(audit_json(given, runs=runs)))
+    data, options = as_bytes(given), Expected(runs, admission, system).options(JSON)
+    _, text, facts = answered("audit", data, len(data), options)
+    return judgement_of(json.loads(text), runs_of(facts))
 
 
-def audit_json(given: Bytes, *, runs: Optional[Iterable[RunId]] = None) -> str:
-    """The verdict as one line with a JSON object, as `sm_tool audit --json` writes it. `runs` is as of `audit`."""
-    return _made("audit", given, _options(runs, JSON))[1].decode("ascii")
+def audit_json(given: Bytes, *, runs: Runs = None, admission: Admission = None, system: System = None) -> str:
+    """The verdict as one line with a JSON object, as `sm_tool audit --json` writes it. What is expected is as of `audit`."""
+    return _made("audit", given, Expected(runs, admission, system).options(JSON))[1].decode("ascii")
 
 
-def draw(given: Bytes, *, runs: Optional[Iterable[RunId]] = None) -> str:
-    """The picture of a bundle or a campaign and of the verdict on it, an SVG text. `runs` is as of `audit`."""
-    return _made("draw", given, _options(runs))[1].decode("ascii")
+def draw(given: Bytes, *, runs: Runs = None, admission: Admission = None, system: System = None) -> str:
+    """The picture of a bundle or a campaign and of the verdict on it, an SVG text. What is expected is as of `audit`."""
+    return _made("draw", given, Expected(runs, admission, system).options())[1].decode("ascii")
 
 
 def accuse(
-    general: int, given: Bytes, *, runs: Optional[Iterable[RunId]] = None, receipts: bool = False
+    general: int,
+    given: Bytes,
+    *,
+    runs: Runs = None,
+    admission: Admission = None,
+    system: System = None,
+    receipts: bool = False,
 ) -> Optional[bytes]:
     """The evidence against a node (general) that a bundle or a campaign holds, or None. With `receipts`, receipts are
     given: the evidence is two heads that the node signed.
 
-    Misuse for a node above 15, and Nobody, which is a Misuse, for another that is none of the run's. `runs` is as of
-    `audit`, and is compared first.
+    Misuse for a node above 15, and Nobody, which is a Misuse, for another that is none of the run's. What is expected is as
+    of `audit`, and is compared first.
     """
-    asked = _options(runs, receipts=receipts)
+    asked = Expected(runs, admission, system).options(receipts=receipts)
     is_no, data = _made("accuse", given, asked, general=(number(general, 16, "general"),))
     return None if is_no else data
 
 
-def receipt(general: int, given: Bytes, *, run: Optional[RunId] = None) -> Optional[bytes]:
+def receipt(
+    general: int, given: Bytes, *, run: Run = None, admission: Admission = None, system: System = None
+) -> Optional[bytes]:
     """The receipt of the log of a node (general) in a bundle, or None if no log of it has a receipt that holds.
 
-    Misuse and Nobody are as of `accuse`. With `run`, OtherRun is raised if the bundle is of another run.
+    Misuse and Nobody are as of `accuse`. With `run`, OtherRun is raised if the bundle is of another run. `admission` and
+    `system` are as of `audit`.
     """
-    is_no, data = _made("receipt", given, _options(_of_one(run)), general=(number(general, 16, "general"),))
+    is_no, data = _made("receipt", given, of_one(run, admission, system).options(), general=(number(general, 16, "general"),))
     return None if is_no else data
 
 
-def receipts(given: Bytes, *, run: Optional[RunId] = None) -> Receipts:
+def receipts(given: Bytes, *, run: Run = None, admission: Admission = None, system: System = None) -> Receipts:
     """Which values (orders) receipts show, one behind another. Its str() is the text that `sm_tool receipts` writes.
-    With `run`, OtherRun is raised if they are of another run. Without it the receipts name the run and its keys
-    themselves, and anybody can write such receipts.
+    With `run`, OtherRun is raised if they are of another run. `admission` and `system` are as of `audit`. Without any of
+    these the receipts name the run and its keys themselves, and anybody can write such receipts.
     """
-    return receipts_of(json.loads(receipts_json(given, run=run)))
+    return receipts_of(json.loads(receipts_json(given, run=run, admission=admission, system=system)))
 
 
-def receipts_json(given: Bytes, *, run: Optional[RunId] = None) -> str:
+def receipts_json(given: Bytes, *, run: Run = None, admission: Admission = None, system: System = None) -> str:
     """The same as one line with a JSON object, as `sm_tool receipts --json` writes it."""
-    return _made("receipts", given, _options(_of_one(run), JSON))[1].decode("ascii")
+    return _made("receipts", given, of_one(run, admission, system).options(JSON))[1].decode("ascii")
 
 
 def refute(given: Bytes, log: Bytes) -> Optional[str]:
@@ -146,21 +205,23 @@ def refute(given: Bytes, log: Bytes) -> Optional[str]:
     return None if is_no else text.decode("ascii")
 
 
-def evidence(given: Bytes, *, run: Optional[RunId] = None) -> Evidence:
-    """What evidence says, and whether it holds. With `run`, OtherRun is raised if its header is that of another run."""
+def evidence(given: Bytes, *, run: Run = None, admission: Admission = None, system: System = None) -> Evidence:
+    """What evidence says, and whether it holds. With `run`, OtherRun is raised if its header is that of another run.
+    `admission` and `system` are as of `audit`.
+    """
     data = as_bytes(given)
-    is_no, _ = _made("evidence", data, _options(_of_one(run)))
+    is_no, _ = _made("evidence", data, of_one(run, admission, system).options())
     of_run = after_mark(data, MARK_BYTES)
     at = MARK_BYTES + len(of_run.data)
     other = after_mark(data, at + 2) if data[at + 1] == ACROSS else None
     return Evidence(data, of_run, data[at], data[at + 1], other, not is_no)
 
 
-def evidence_json(given: Bytes, *, run: Optional[RunId] = None) -> str:
+def evidence_json(given: Bytes, *, run: Run = None, admission: Admission = None, system: System = None) -> str:
     """What evidence says, and whether it holds, as one line with a JSON object, as `sm_tool evidence --json` writes it.
-    `run` is as of `evidence`.
+    What is expected is as of `evidence`.
     """
-    return _made("evidence", given, _options(_of_one(run), JSON))[1].decode("ascii")
+    return _made("evidence", given, of_one(run, admission, system).options(JSON))[1].decode("ascii")
 
 
 def decide(scenario: Bytes) -> Tuple[RunDecision, ...]:
@@ -170,7 +231,7 @@ def decide(scenario: Bytes) -> Tuple[RunDecision, ...]:
 
 def decide_json(scenario: Bytes) -> str:
     """The same as one line with a JSON object, as `sm_tool decide --json` writes it."""
-    return _made("decide", scenario, _options(None, JSON))[1].decode("ascii")
+    return _made("decide", scenario, ANY.options(JSON))[1].decode("ascii")
 
 
 def run_ids(given: Bytes) -> Tuple[str, ...]:
@@ -184,18 +245,20 @@ def run_ids(given: Bytes) -> Tuple[str, ...]:
     return tuple(ids[at : at + RUN_ID_BYTES].hex() for at in range(0, len(ids), RUN_ID_BYTES))
 
 
-def show(given: Bytes, *, runs: Optional[Iterable[RunId]] = None) -> Tuple[bool, str]:
+def show(given: Bytes, *, runs: Runs = None, admission: Admission = None, system: System = None) -> Tuple[bool, str]:
     """Whether a file is a whole bundle, campaign, evidence or header, and what it is, as `sm_tool show` writes it.
 
-    `runs` is as of `audit`. With it a file that is not whole is OtherRun too, as nothing says of which run it is.
+    What is expected is as of `audit`. With it a file that is not whole is OtherRun too, as nothing says of which run it is.
     """
-    is_no, text = _made("show", given, _options(runs))
+    is_no, text = _made("show", given, Expected(runs, admission, system).options())
     return not is_no, text.decode("ascii")
 
 
-def show_json(given: Bytes, *, runs: Optional[Iterable[RunId]] = None) -> Tuple[bool, str]:
-    """The same as lines with a JSON object each, as `sm_tool show --json` writes them. `runs` is as of `show`."""
-    is_no, text = _made("show", given, _options(runs, JSON))
+def show_json(
+    given: Bytes, *, runs: Runs = None, admission: Admission = None, system: System = None
+) -> Tuple[bool, str]:
+    """The same as lines with a JSON object each, as `sm_tool show --json` writes them."""
+    is_no, text = _made("show", given, Expected(runs, admission, system).options(JSON))
     return not is_no, text.decode("ascii")
 
 

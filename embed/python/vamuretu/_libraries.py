@@ -6,7 +6,7 @@ import ctypes
 import os
 import pathlib
 import threading
-from ctypes import POINTER, c_char_p, c_size_t, c_uint32, c_void_p
+from ctypes import POINTER, c_char_p, c_int64, c_size_t, c_uint32, c_uint64, c_void_p
 from typing import Any, Callable, Dict, List, Optional, Tuple, Union
 
 from ._faults import LibraryMissing, Misuse
@@ -22,6 +22,9 @@ Bytes = Union[bytes, bytearray, memoryview]
 # A run id in bytes, or in 64 hexadecimal digits.
 RunId = Union[str, Bytes]
 RUN_ID_BYTES = 32
+# The id of a system in bytes, or in 64 hexadecimal digits.
+SystemId = Union[str, Bytes]
+SYSTEM_ID_BYTES = 32
 Call = Callable[[Any, int, Any], int]
 
 
@@ -30,6 +33,17 @@ class Options(ctypes.Structure):
 
     _fields_ = [("runs", c_char_p), ("run_count", c_size_t)]
     _fields_ += [(name, c_uint32) for name in ("strict", "form", "receipts")]
+    _fields_ += [("admission", c_char_p), ("admission_bytes", c_size_t), ("system", c_char_p), ("system_bytes", c_size_t)]
+
+    def __init__(self, *values: Any, **named: Any) -> None:
+        # No pointer is null, also where there are no bytes.
+        super().__init__(*values, **{"admission": b"", "system": b"", **named})
+
+
+class Roots(ctypes.Structure):
+    """`sm_roots`."""
+
+    _fields_ = [("node", c_uint32), ("roots", c_char_p), ("roots_bytes", c_size_t)]
 
 
 class Fact(ctypes.Structure):
@@ -88,6 +102,11 @@ _ENDS: Dict[str, Dict[str, List[Any]]] = {
         "sm_words": _READ + _ANSWER,
         "sm_plan": _READ + _ANSWER,
         "sm_run_id": _READ + _ANSWER,
+        "sm_enroll": [c_uint32, c_uint32] + _READ + _ANSWER,
+        "sm_identity": _READ + _ANSWER,
+        "sm_system": [c_uint32, c_uint32, c_uint32, c_char_p] + _READ + _ANSWER,
+        "sm_admission": [c_uint32] + _READ + [POINTER(Roots), c_size_t] + _ANSWER,
+        "sm_admit": [c_uint32] + _READ + _READ + _ANSWER,
         "sm_answer_text": _ANSWER + _WRITTEN,
         "sm_answer_facts": _ANSWER + [POINTER(Fact), c_size_t, POINTER(c_size_t)],
         "sm_answer_free": _ANSWER,
@@ -124,6 +143,11 @@ _ENDS: Dict[str, Dict[str, List[Any]]] = {
         "sm_node_lacks": _NODE + [c_uint32, POINTER(c_uint32)],
         "sm_node_may_end": _NODE + [POINTER(c_uint32)],
         "sm_node_is_over": _NODE + [POINTER(c_uint32)],
+        "sm_node_state": [c_char_p, c_char_p, c_char_p],
+        "sm_node_state_set": [c_char_p, POINTER(c_uint32)],
+        "sm_node_state_seed": [c_char_p, c_char_p, c_char_p],
+        "sm_node_state_advance": [c_char_p, c_uint32],
+        "sm_node_next_run": [c_int64, c_int64, c_uint64, c_uint32, POINTER(c_uint32), POINTER(c_int64)],
         "sm_node_version": [],
     },
 }
@@ -196,12 +220,22 @@ def exactly(length: int, given: Bytes, name: str) -> bytes:
     return data
 
 
+def _id_of(given: Union[str, Bytes], name: str) -> bytes:
+    """The bytes of an id, which are 32."""
+    try:
+        return exactly(RUN_ID_BYTES, bytes.fromhex(given) if isinstance(given, str) else given, name)
+    except ValueError:
+        raise Misuse(f"{given!r} is no id") from None
+
+
 def run_id_of(given: RunId) -> bytes:
     """The bytes of a run id."""
-    try:
-        return exactly(RUN_ID_BYTES, bytes.fromhex(given) if isinstance(given, str) else given, "a run id")
-    except ValueError:
-        raise Misuse(f"{given!r} is no run id") from None
+    return _id_of(given, "a run id")
+
+
+def system_id_of(given: SystemId) -> bytes:
+    """The bytes of the id of a system."""
+    return _id_of(given, "a system's id")
 
 
 def number(value: int, below: int, name: str) -> int:
@@ -224,14 +258,24 @@ def written(call: Call, length: int) -> Tuple[int, bytes]:
         length = count.value
 
 
-def held(name: str, call: Callable[[Any], int]) -> Tuple[int, bytes]:
-    """The status of a call that takes an answer, and the bytes that the answer holds, which is then freed."""
+def held(name: str, call: Callable[[Any], int]) -> Tuple[int, bytes, List[Fact]]:
+    """The status of a call that takes an answer, and the bytes and the facts that the answer holds, which is then freed."""
     answer = c_void_p(None)
     functions = library(name)
     try:
         status = call(ctypes.byref(answer))
         if not answer.value:
-            return status, b""
-        return status, written(lambda *ends: int(functions.sm_answer_text(ctypes.byref(answer), *ends)), 0)[1]
+            return status, b"", []
+        data = written(lambda *ends: int(functions.sm_answer_text(ctypes.byref(answer), *ends)), 0)[1]
+        return status, data, _facts_of(functions, answer)
     finally:
         functions.sm_answer_free(ctypes.byref(answer))
+
+
+def _facts_of(functions: ctypes.CDLL, answer: c_void_p) -> List[Fact]:
+    """The facts that an answer holds."""
+    count, room = c_size_t(0), (Fact * 1)()
+    functions.sm_answer_facts(ctypes.byref(answer), room, 0, ctypes.byref(count))
+    room = (Fact * max(count.value, 1))()
+    functions.sm_answer_facts(ctypes.byref(answer), room, count.value, ctypes.byref(count))
+    return list(room)[: count.value]

@@ -4,7 +4,7 @@ from __future__ import annotations
 
 import enum
 from dataclasses import dataclass
-from typing import Any, Dict, FrozenSet, List, Optional, Tuple, Union
+from typing import Any, Dict, FrozenSet, List, Optional, Sequence, Tuple, Union
 
 
 class Kind(str, enum.Enum):
@@ -157,11 +157,23 @@ class AcrossConviction:
 
 
 @dataclass(frozen=True)
+class SystemRun:
+    """Which run of a system an input is of: the id of the system, the number of the run, and for each general of the run the
+    node of the system that it is.
+    """
+
+    system: str
+    number: int
+    nodes: Tuple[int, ...]
+
+
+@dataclass(frozen=True)
 class Verdict:
     """The verdict on one run. AGREED has an order, EXPLAINED has decisions, and NO has findings.
 
     `generals` is n, `traitors` is m, and `faulty` are the nodes (generals) that are held for faulty, F. `statuses` has one
-    status for each node. `equal_roots` are the pairs of nodes with the same root.
+    status for each node. `equal_roots` are the pairs of nodes with the same root. `system_run` is the run of a system, if it
+    was asked by an admission.
     """
 
     run_id: str
@@ -175,6 +187,7 @@ class Verdict:
     faulty: Tuple[int, ...]
     statuses: Tuple[Status, ...]
     equal_roots: Tuple[Tuple[int, int], ...]
+    system_run: Optional[SystemRun] = None
 
     @property
     def is_no(self) -> bool:
@@ -220,7 +233,7 @@ def _finding(of: Value) -> Finding:
     return Finding(int(of["id"][1:]), generals, of.get("entry"), of.get("fault"), of.get("round"), of.get("order"))
 
 
-def _verdict(of: Value) -> Verdict:
+def _verdict(of: Value, system_run: Optional[SystemRun] = None) -> Verdict:
     """The verdict on a run that an object has."""
     return Verdict(
         of["run"],
@@ -234,15 +247,16 @@ def _verdict(of: Value) -> Verdict:
         tuple(of["faulty"]),
         tuple(Status(it["status"]) for it in of["statuses"]),
         tuple((first, second) for first, second in of["equal_roots"]),
+        system_run,
     )
 
 
-def judgement_of(of: Value) -> Judgement:
-    """The verdict on a bundle or on a campaign that an object has."""
+def judgement_of(of: Value, system_runs: Sequence[SystemRun] = ()) -> Judgement:
+    """The verdict on a bundle or on a campaign that an object has. The runs of a system are those of its runs, or none."""
     if "runs" not in of:
-        return _verdict(of)
+        return _verdict(of, *system_runs)
     across = (AcrossConviction(it["general"], (it["first"], it["second"])) for it in of["across"])
-    return CampaignVerdict(tuple(map(_verdict, of["runs"])), tuple(across))
+    return CampaignVerdict(tuple(map(_verdict, of["runs"], system_runs or [None] * len(of["runs"]))), tuple(across))
 
 
 def receipts_of(of: Value) -> Receipts:

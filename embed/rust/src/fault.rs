@@ -11,6 +11,8 @@ pub enum Fault {
     Input(String),
     /// The input of a job is of another run than the one that is expected.
     OtherRun,
+    /// An admission, or a state, is of another system than the one that is expected.
+    OtherSystem,
     /// The node (general) of [`accuse`](crate::accuse) or [`receipt`](crate::receipt) is none of the run's.
     Nobody,
     /// What was handed to a call on nodes, headers or bundles, or to [`shown`](crate::shown), has a fault.
@@ -128,6 +130,7 @@ impl fmt::Display for Fault {
         match self {
             Fault::Input(line) => write!(to, "{line}"),
             Fault::OtherRun => write!(to, "fault R1"),
+            Fault::OtherSystem => write!(to, "fault A11"),
             Fault::Node(fault) => write!(to, "{fault}"),
             Fault::EqualRoots(first, second) => write!(to, "fault G2 generals {first} {second}"),
             Fault::NoWalk(fault, first, second) => write!(to, "{fault}: {first} and {second}"),

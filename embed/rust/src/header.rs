@@ -154,6 +154,16 @@ impl Header {
         self.parts().0[0].into()
     }
 
+    /// How many nodes (generals) may be faulty (traitors): m.
+    pub fn traitors(&self) -> u32 {
+        self.parts().0[1].into()
+    }
+
+    /// How many values (orders) there are: q.
+    pub fn orders(&self) -> u32 {
+        self.parts().0[3].into()
+    }
+
     /// How many rounds a run has.
     pub fn rounds(&self) -> usize {
         let numbers = self.parts().0;

@@ -1,14 +1,17 @@
 //! What `sm_tool` does over bytes.
 
 use crate::raw::{self, Held, SmAnswer, SmOptions};
+use crate::states::SystemId;
 use crate::verdicts::{Judgement, Receipts, RunDecision};
 use crate::Fault;
 
 /// The forms of an answer.
-const TEXT: u32 = 0;
+pub(crate) const TEXT: u32 = 0;
 const JSON: u32 = 1;
 /// The number of the version that both archives tell, as `SM_VERSION_NUMBER` of `sm_status.h`.
 const VERSION_NUMBER: u32 = 2000;
+/// The line of an admission of another system than the one that is expected.
+const OTHER_SYSTEM: &[u8] = b"fault A11";
 /// What the bytes of a campaign begin with.
 const CAMPAIGN: &[u8] = b"SMC2";
 
@@ -36,7 +39,7 @@ impl Answer {
 }
 
 /// The text of bytes that the library wrote. It writes ASCII.
-fn text_of(bytes: Vec<u8>) -> String {
+pub(crate) fn text_of(bytes: Vec<u8>) -> String {
     String::from_utf8(bytes).unwrap_or_else(|told| String::from_utf8_lossy(told.as_bytes()).into_owned())
 }
 
@@ -46,13 +49,14 @@ pub type RunId = [u8; 32];
 /// A job that takes an input and options, one that takes a general before them, and one that takes an input.
 type Asking = unsafe extern "C" fn(*const u8, usize, *const SmOptions, *mut SmAnswer) -> u32;
 type Making = unsafe extern "C" fn(u32, *const u8, usize, *const SmOptions, *mut SmAnswer) -> u32;
-type Telling = unsafe extern "C" fn(*const u8, usize, *mut SmAnswer) -> u32;
+pub(crate) type Telling = unsafe extern "C" fn(*const u8, usize, *mut SmAnswer) -> u32;
 
 /// The end of a job: whether it is a no, and what is held.
-fn ended((status, mut held): (u32, Held)) -> Result<(bool, Held), Fault> {
+pub(crate) fn ended((status, mut held): (u32, Held)) -> Result<(bool, Held), Fault> {
     match status {
         raw::OK | raw::NO => Ok((status == raw::NO, held)),
         raw::FAULT => Err(Fault::Input(text_of(held.text()))),
+        raw::OTHER if held.text() == OTHER_SYSTEM => Err(Fault::OtherSystem),
         raw::OTHER => Err(Fault::OtherRun),
         raw::NOBODY => Err(Fault::Nobody),
         raw::MEMORY => Err(Fault::Memory),
@@ -70,13 +74,70 @@ fn in_words((is_no, mut held): (bool, Held)) -> Answer {
     }
 }
 
-/// The options of a call. The ids outlive them.
-fn options(runs: &[RunId], strict: bool, form: u32) -> SmOptions {
-    SmOptions { runs: runs.as_ptr().cast(), run_count: runs.len(), strict: u32::from(strict), form, receipts: 0 }
+/// What an input is expected to be of: of any run, of the runs with these ids, or of runs that an admission admits.
+///
+/// A list of run ids is one, and so is an id that there may be: a call takes `&runs`, `&[]`, `Some(&run)` or `None`.
+#[derive(Debug, Clone, Copy, PartialEq, Eq)]
+pub enum Expected<'a> {
+    /// The runs with these ids, at most four: of a campaign all its runs in their order. None of them stands for any run.
+    Runs(&'a [RunId]),
+    /// Runs of the set of an admission.
+    Admitted {
+        /// The bytes of the admission.
+        admission: &'a [u8],
+        /// The id of the system that the admission has to be of. Without it anybody's admission counts: compare the id in
+        /// [`SystemRun`](crate::SystemRun) then.
+        system: Option<&'a SystemId>,
+    },
+}
+
+impl<'a> From<&'a [RunId]> for Expected<'a> {
+    fn from(runs: &'a [RunId]) -> Expected<'a> {
+        Expected::Runs(runs)
+    }
+}
+
+impl<'a, const COUNT: usize> From<&'a [RunId; COUNT]> for Expected<'a> {
+    fn from(runs: &'a [RunId; COUNT]) -> Expected<'a> {
+        Expected::Runs(runs)
+    }
+}
+
+impl<'a> From<&'a Vec<RunId>> for Expected<'a> {
+    fn from(runs: &'a Vec<RunId>) -> Expected<'a> {
+        Expected::Runs(runs)
+    }
+}
+
+impl<'a> From<Option<&'a RunId>> for Expected<'a> {
+    fn from(run: Option<&'a RunId>) -> Expected<'a> {
+        Expected::Runs(run.map_or(&[], std::slice::from_ref))
+    }
+}
+
+/// The options of a call. What is expected outlives them. No admission is empty.
+pub(crate) fn options<'a>(expected: impl Into<Expected<'a>>, strict: bool, form: u32) -> Result<SmOptions, Fault> {
+    let none: &[u8] = &[];
+    let (runs, admission, system): (&[RunId], _, _) = match expected.into() {
+        Expected::Runs(runs) => (runs, none, none),
+        Expected::Admitted { admission: [], .. } => return Err(Fault::Misuse),
+        Expected::Admitted { admission, system } => (&[], admission, system.map_or(none, |id| &id[..])),
+    };
+    Ok(SmOptions {
+        runs: runs.as_ptr().cast(),
+        run_count: runs.len(),
+        strict: u32::from(strict),
+        form,
+        receipts: 0,
+        admission: admission.as_ptr(),
+        admission_bytes: admission.len(),
+        system: system.as_ptr(),
+        system_bytes: system.len(),
+    })
 }
 
 /// Does a job on an input, by options.
-fn asked(job: Asking, options: &SmOptions, input: &[u8]) -> Result<(bool, Held), Fault> {
+pub(crate) fn asked(job: Asking, options: &SmOptions, input: &[u8]) -> Result<(bool, Held), Fault> {
     // SAFETY: the pointers are of pieces of memory of these lengths that do not overlap, and nobody else has the answer.
     ended(Held::by(|answer| unsafe { job(input.as_ptr(), input.len(), options, answer) }))
 }
@@ -89,13 +150,8 @@ fn bytes_of(job: Making, general: u32, options: &SmOptions, input: &[u8]) -> Res
     Ok((!is_no).then(|| held.text()))
 }
 
-/// The list of the run id that is expected, if there is one.
-fn one_of(run: Option<&RunId>) -> &[RunId] {
-    run.map_or(&[], std::slice::from_ref)
-}
-
 /// Does a job on an input.
-fn told(job: Telling, input: &[u8]) -> Result<(bool, Held), Fault> {
+pub(crate) fn told(job: Telling, input: &[u8]) -> Result<(bool, Held), Fault> {
     // SAFETY: as in `asked`.
     ended(Held::by(|answer| unsafe { job(input.as_ptr(), input.len(), answer) }))
 }
@@ -107,22 +163,23 @@ pub fn audit(input: &[u8]) -> Result<Answer, Fault> {
     audit_of(&[], false, input)
 }
 
-/// The verdict on a bundle or a campaign of the runs with these ids, in their order; of any if there are none. If it is
-/// asked strictly, `explained` is a no too, and so are two nodes (generals) with the same root, whom the text names.
-/// [`Fault::OtherRun`] for other runs, [`Fault::Misuse`] for more than four ids.
-pub fn audit_of(runs: &[RunId], strict: bool, input: &[u8]) -> Result<Answer, Fault> {
-    asked(raw::sm_audit, &options(runs, strict, TEXT), input).map(in_words)
+/// The verdict on a bundle or a campaign of the runs that are [`Expected`]. If it is asked strictly, `explained` is a no
+/// too, and so are two nodes (generals) with the same root, whom the text names. [`Fault::OtherRun`] for other
+/// runs, [`Fault::OtherSystem`] for an admission of another system, and [`Fault::Misuse`] for more than four ids, or for an
+/// admission of no bytes.
+pub fn audit_of<'a>(runs: impl Into<Expected<'a>>, strict: bool, input: &[u8]) -> Result<Answer, Fault> {
+    asked(raw::sm_audit, &options(runs, strict, TEXT)?, input).map(in_words)
 }
 
-/// The verdict on a bundle or a campaign of the runs with these ids, in its parts. `runs` is as of [`audit_of`].
-pub fn judge(runs: &[RunId], input: &[u8]) -> Result<Judgement, Fault> {
-    let (_, mut held) = asked(raw::sm_audit, &options(runs, false, TEXT), input)?;
+/// The verdict on a bundle or a campaign of the runs that are expected, in its parts. `runs` is as of [`audit_of`].
+pub fn judge<'a>(runs: impl Into<Expected<'a>>, input: &[u8]) -> Result<Judgement, Fault> {
+    let (_, mut held) = asked(raw::sm_audit, &options(runs, false, TEXT)?, input)?;
     Judgement::of(&held.facts(), input.starts_with(CAMPAIGN)).ok_or(Fault::Misuse)
 }
 
 /// The verdict as one line with a JSON object, as `sm_tool audit --json` writes it. `runs` is as of [`audit_of`].
-pub fn audit_json(runs: &[RunId], input: &[u8]) -> Result<String, Fault> {
-    asked(raw::sm_audit, &options(runs, false, JSON), input).map(|(_, mut held)| text_of(held.text()))
+pub fn audit_json<'a>(runs: impl Into<Expected<'a>>, input: &[u8]) -> Result<String, Fault> {
+    asked(raw::sm_audit, &options(runs, false, JSON)?, input).map(|(_, mut held)| text_of(held.text()))
 }
 
 /// The picture of a bundle or a campaign and of the verdict on it, an SVG text.
@@ -130,24 +187,24 @@ pub fn draw(input: &[u8]) -> Result<String, Fault> {
     draw_of(&[], input)
 }
 
-/// The picture, as [`draw`], of the runs with these ids. Faults are those of [`audit_of`].
-pub fn draw_of(runs: &[RunId], input: &[u8]) -> Result<String, Fault> {
-    asked(raw::sm_draw, &options(runs, false, TEXT), input).map(|(_, mut held)| text_of(held.text()))
+/// The picture, as [`draw`], of the runs that are expected. Faults are those of [`audit_of`].
+pub fn draw_of<'a>(runs: impl Into<Expected<'a>>, input: &[u8]) -> Result<String, Fault> {
+    asked(raw::sm_draw, &options(runs, false, TEXT)?, input).map(|(_, mut held)| text_of(held.text()))
 }
 
 /// What the nodes (generals) decide in the run of a scenario's text, as `sm_tool decide` writes it.
 pub fn decide(scenario: &[u8]) -> Result<String, Fault> {
-    asked(raw::sm_decide, &options(&[], false, TEXT), scenario).map(|(_, mut held)| text_of(held.text()))
+    asked(raw::sm_decide, &options(&[], false, TEXT)?, scenario).map(|(_, mut held)| text_of(held.text()))
 }
 
 /// The same as one line with a JSON object, as `sm_tool decide --json` writes it.
 pub fn decide_json(scenario: &[u8]) -> Result<String, Fault> {
-    asked(raw::sm_decide, &options(&[], false, JSON), scenario).map(|(_, mut held)| text_of(held.text()))
+    asked(raw::sm_decide, &options(&[], false, JSON)?, scenario).map(|(_, mut held)| text_of(held.text()))
 }
 
 /// The same in its parts.
 pub fn decisions(scenario: &[u8]) -> Result<Vec<RunDecision>, Fault> {
-    let (_, mut held) = asked(raw::sm_decide, &options(&[], false, TEXT), scenario)?;
+    let (_, mut held) = asked(raw::sm_decide, &options(&[], false, TEXT)?, scenario)?;
     Ok(held.facts().iter().map(RunDecision::of).collect())
 }
 
@@ -156,16 +213,16 @@ pub fn evidence(input: &[u8]) -> Result<bool, Fault> {
     evidence_of(None, input)
 }
 
-/// Whether evidence holds, which is of the run with this id; of any if there is none. [`Fault::OtherRun`] if its header
-/// is that of another run.
-pub fn evidence_of(run: Option<&RunId>, input: &[u8]) -> Result<bool, Fault> {
-    asked(raw::sm_evidence, &options(one_of(run), false, TEXT), input).map(|(is_no, _)| !is_no)
+/// Whether evidence holds, which is of the run that is [`Expected`]. [`Fault::OtherRun`] if its header is that of another
+/// run. The other faults are those of [`audit_of`].
+pub fn evidence_of<'a>(run: impl Into<Expected<'a>>, input: &[u8]) -> Result<bool, Fault> {
+    asked(raw::sm_evidence, &options(run, false, TEXT)?, input).map(|(is_no, _)| !is_no)
 }
 
 /// What evidence says, and whether it holds, as one line with a JSON object, as `sm_tool evidence --json` writes it.
 /// `run` is as of [`evidence_of`].
-pub fn evidence_json(run: Option<&RunId>, input: &[u8]) -> Result<String, Fault> {
-    asked(raw::sm_evidence, &options(one_of(run), false, JSON), input).map(|(_, mut held)| text_of(held.text()))
+pub fn evidence_json<'a>(run: impl Into<Expected<'a>>, input: &[u8]) -> Result<String, Fault> {
+    asked(raw::sm_evidence, &options(run, false, JSON)?, input).map(|(_, mut held)| text_of(held.text()))
 }
 
 /// The evidence against a node (general) that a bundle or a campaign holds, if there is any. [`Fault::Misuse`] for a
@@ -174,36 +231,40 @@ pub fn accuse(general: u32, input: &[u8]) -> Result<Option<Vec<u8>>, Fault> {
     accuse_of(&[], general, input)
 }
 
-/// The evidence, as [`accuse`], of the runs with these ids, which are compared first. Faults are those of [`audit_of`]
+/// The evidence, as [`accuse`], of the runs that are expected, which are compared first. Faults are those of [`audit_of`]
 /// too.
-pub fn accuse_of(runs: &[RunId], general: u32, input: &[u8]) -> Result<Option<Vec<u8>>, Fault> {
-    bytes_of(raw::sm_accuse, general, &options(runs, false, TEXT), input)
+pub fn accuse_of<'a>(runs: impl Into<Expected<'a>>, general: u32, input: &[u8]) -> Result<Option<Vec<u8>>, Fault> {
+    bytes_of(raw::sm_accuse, general, &options(runs, false, TEXT)?, input)
 }
 
 /// The evidence against a node (general) that receipts hold, one behind another: two heads that the node signed. `run` is
 /// as of [`evidence_of`], and the other faults are those of [`accuse`].
-pub fn accuse_receipts(run: Option<&RunId>, general: u32, receipts: &[u8]) -> Result<Option<Vec<u8>>, Fault> {
-    let given = SmOptions { receipts: 1, ..options(one_of(run), false, TEXT) };
+pub fn accuse_receipts<'a>(
+    run: impl Into<Expected<'a>>,
+    general: u32,
+    receipts: &[u8],
+) -> Result<Option<Vec<u8>>, Fault> {
+    let given = SmOptions { receipts: 1, ..options(run, false, TEXT)? };
     bytes_of(raw::sm_accuse, general, &given, receipts)
 }
 
 /// The receipt of the log of a node (general) in a bundle, if a log of it has a receipt that holds. `run` is as of
 /// [`evidence_of`], and the other faults are those of [`accuse`].
-pub fn receipt(run: Option<&RunId>, general: u32, bundle: &[u8]) -> Result<Option<Vec<u8>>, Fault> {
-    bytes_of(raw::sm_receipt, general, &options(one_of(run), false, TEXT), bundle)
+pub fn receipt<'a>(run: impl Into<Expected<'a>>, general: u32, bundle: &[u8]) -> Result<Option<Vec<u8>>, Fault> {
+    bytes_of(raw::sm_receipt, general, &options(run, false, TEXT)?, bundle)
 }
 
 /// Which values (orders) receipts show, one behind another, in its parts. Its text is that of `sm_tool receipts`. `run` is
 /// as of [`evidence_of`]. Without it the receipts name the run and its keys themselves, and anybody can write such
 /// receipts.
-pub fn receipts(run: Option<&RunId>, input: &[u8]) -> Result<Receipts, Fault> {
-    let (_, mut held) = asked(raw::sm_receipts, &options(one_of(run), false, TEXT), input)?;
+pub fn receipts<'a>(run: impl Into<Expected<'a>>, input: &[u8]) -> Result<Receipts, Fault> {
+    let (_, mut held) = asked(raw::sm_receipts, &options(run, false, TEXT)?, input)?;
     Receipts::of(&held.facts()).ok_or(Fault::Misuse)
 }
 
 /// The same as one line with a JSON object, as `sm_tool receipts --json` writes it.
-pub fn receipts_json(run: Option<&RunId>, input: &[u8]) -> Result<String, Fault> {
-    asked(raw::sm_receipts, &options(one_of(run), false, JSON), input).map(|(_, mut held)| text_of(held.text()))
+pub fn receipts_json<'a>(run: impl Into<Expected<'a>>, input: &[u8]) -> Result<String, Fault> {
+    asked(raw::sm_receipts, &options(run, false, JSON)?, input).map(|(_, mut held)| text_of(held.text()))
 }
 
 /// The ids of the runs that a file is of: one of a header, of a bundle or of evidence, and of a campaign those of its
@@ -221,16 +282,15 @@ pub fn show(input: &[u8]) -> Result<Answer, Fault> {
     show_of(&[], input)
 }
 
-/// What a file of the runs with these ids is, as [`show`], in their order; of any file if there are none.
-/// [`Fault::OtherRun`] for other runs, and for a file that is not whole, if there are ids. [`Fault::Misuse`] for more
-/// than four ids.
-pub fn show_of(runs: &[RunId], input: &[u8]) -> Result<Answer, Fault> {
-    asked(raw::sm_show, &options(runs, false, TEXT), input).map(in_words)
+/// What a file of the runs that are expected is, as [`show`]. Faults are those of [`audit_of`], and a file that is not
+/// whole is [`Fault::OtherRun`] too, if anything is expected.
+pub fn show_of<'a>(runs: impl Into<Expected<'a>>, input: &[u8]) -> Result<Answer, Fault> {
+    asked(raw::sm_show, &options(runs, false, TEXT)?, input).map(in_words)
 }
 
 /// The same as lines with a JSON object each, as `sm_tool show --json` writes them. `runs` is as of [`show_of`].
-pub fn show_json(runs: &[RunId], input: &[u8]) -> Result<Answer, Fault> {
-    asked(raw::sm_show, &options(runs, false, JSON), input).map(in_words)
+pub fn show_json<'a>(runs: impl Into<Expected<'a>>, input: &[u8]) -> Result<Answer, Fault> {
+    asked(raw::sm_show, &options(runs, false, JSON)?, input).map(in_words)
 }
 
 /// What a name means that stands in an answer, as `sm_tool explain` writes it, if it is one: that of a fault, a finding,

@@ -9,25 +9,36 @@
 //! their parts. [`shown`] tells an actuator the value that receipts show. A
 //! [`Node`] is driven over the caller's transport, by any thread, one call at a time. A [`Bundle`] of logs is what `audit`
 //! judges.
+//!
+//! A [`KeptState`] hands out the seeds of one [`Secret`] for many runs. [`enroll`], [`identity`], [`system`], [`admission`]
+//! and [`admit`] make what its nodes share, and [`Expected`] has an admission in the place of run ids.
 #![warn(missing_docs)]
 
+mod clock;
 mod fault;
 mod header;
 mod jobs;
+mod kept;
 mod node;
 mod raw;
+mod states;
+mod systems;
 mod verdicts;
 
 #[cfg(feature = "global-allocator")]
 mod heap;
 
+pub use clock::{NextRun, Timetable};
 pub use fault::{Fault, NodeFault};
 pub use header::{Header, Numbers, Root, Seed, Version};
 pub use jobs::{
     accuse, accuse_of, accuse_receipts, audit, audit_json, audit_of, decide, decide_json, decisions, draw, draw_of,
 };
 pub use jobs::{evidence, evidence_json, evidence_of, explain, judge, plan, receipt, receipts, receipts_json, refute};
-pub use jobs::{run_ids, show, show_json, show_of, version, versions_match, words, Answer, RunId};
+pub use jobs::{run_ids, show, show_json, show_of, version, versions_match, words, Answer, Expected, RunId};
+pub use kept::{KeptState, StateFault};
 pub use node::{shown, Bundle, FrameHead, Keys, Node};
+pub use states::{Secret, SetState, SystemId};
+pub use systems::{admission, admit, enroll, identity, system, system_runs, Admitted, OfSystem, SystemRun, Terms};
 pub use verdicts::{Across, Conviction, Decision, Finding, Judgement, Receipt, Receipts, RunDecision, Said, Status};
 pub use verdicts::{Verdict, Verdicts};

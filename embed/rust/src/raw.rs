@@ -13,6 +13,8 @@ pub const NOBODY: u32 = 6;
 pub const OTHER: u32 = 7;
 /// In place of an order: the node has none.
 pub const NO_ORDER: u32 = 255;
+/// In place of a run: there is none.
+pub const NO_RUN: u32 = 4_294_967_295;
 
 /// `sm_node`. It holds neither a node nor keys if it is null.
 #[repr(C)]
@@ -34,6 +36,18 @@ pub struct SmOptions {
     pub strict: u32,
     pub form: u32,
     pub receipts: u32,
+    pub admission: *const u8,
+    pub admission_bytes: usize,
+    pub system: *const u8,
+    pub system_bytes: usize,
+}
+
+/// `sm_roots`.
+#[repr(C)]
+pub struct SmRoots {
+    pub node: u32,
+    pub roots: *const u8,
+    pub roots_bytes: usize,
 }
 
 /// `sm_fact`.
@@ -124,6 +138,33 @@ extern "C" {
     pub fn sm_words(input: *const u8, input_bytes: usize, answer: *mut SmAnswer) -> u32;
     pub fn sm_plan(input: *const u8, input_bytes: usize, answer: *mut SmAnswer) -> u32;
     pub fn sm_run_id(input: *const u8, input_bytes: usize, answer: *mut SmAnswer) -> u32;
+    pub fn sm_enroll(version: u32, levels: u32, secret: *const u8, secret_bytes: usize, answer: *mut SmAnswer) -> u32;
+    pub fn sm_identity(input: *const u8, input_bytes: usize, answer: *mut SmAnswer) -> u32;
+    pub fn sm_system(
+        version: u32,
+        levels: u32,
+        turns: u32,
+        context: *const u8,
+        text: *const u8,
+        text_bytes: usize,
+        answer: *mut SmAnswer,
+    ) -> u32;
+    pub fn sm_admission(
+        run: u32,
+        system: *const u8,
+        system_bytes: usize,
+        files: *const SmRoots,
+        file_count: usize,
+        answer: *mut SmAnswer,
+    ) -> u32;
+    pub fn sm_admit(
+        run: u32,
+        admission: *const u8,
+        admission_bytes: usize,
+        system: *const u8,
+        system_bytes: usize,
+        answer: *mut SmAnswer,
+    ) -> u32;
     pub fn sm_answer_text(answer: *mut SmAnswer, room: *mut u8, room_bytes: usize, count: *mut usize) -> u32;
     pub fn sm_answer_facts(answer: *mut SmAnswer, room: *mut SmFact, room_facts: usize, count: *mut usize) -> u32;
     pub fn sm_answer_free(answer: *mut SmAnswer);
@@ -172,6 +213,10 @@ extern "C" {
     pub fn sm_node_lacks(node: *mut SmNode, general: u32, lacks: *mut u32) -> u32;
     pub fn sm_node_may_end(node: *mut SmNode, may: *mut u32) -> u32;
     pub fn sm_node_is_over(node: *mut SmNode, is_over: *mut u32) -> u32;
+    pub fn sm_node_state(secret: *const u8, system: *const u8, state: *mut u8) -> u32;
+    pub fn sm_node_state_seed(state: *const u8, system: *const u8, seed: *mut u8) -> u32;
+    pub fn sm_node_state_advance(state: *mut u8, set: u32) -> u32;
+    pub fn sm_node_next_run(now: i64, start: i64, period: u64, mark: u32, run: *mut u32, begins: *mut i64) -> u32;
     pub fn sm_node_version() -> u32;
     pub fn sm_node_header_numbers(
         header: *const u8,

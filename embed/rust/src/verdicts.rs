@@ -4,6 +4,7 @@ use std::fmt::{self, Display, Formatter};
 
 use crate::jobs::RunId;
 use crate::raw::SmFact;
+use crate::systems::SystemRun;
 
 /// The kinds of facts, and the numbers of verdicts, as `sm_embed.h` has them.
 const FACT_RUN: u32 = 1;
@@ -91,6 +92,7 @@ pub struct Receipts {
 impl Receipts {
     /// What the facts of an answer say; `None` for facts that no library tells.
     pub(crate) fn of(facts: &[SmFact]) -> Option<Receipts> {
+        let (_, facts) = SystemRun::split(facts);
         let (first, rest) = facts.split_first().filter(|(first, _)| first.kind == FACT_SHOWN)?;
         let &SmFact { run_id, generals, traitors, set, .. } = first;
         let mut told =
@@ -323,12 +325,15 @@ pub struct Judgement {
     pub verdicts: Verdicts,
     /// The pairs of nodes (generals) with the same root. The text has them only if it is asked for strictly.
     pub equal_roots: Vec<(u32, u32)>,
+    /// Which run of a system each run is, if an admission was expected. Otherwise there are none.
+    pub system_runs: Vec<SystemRun>,
 }
 
 impl Judgement {
     /// The judgement that the facts of an answer say; `None` for facts that no library tells.
     pub(crate) fn of(facts: &[SmFact], is_campaign: bool) -> Option<Judgement> {
         let (mut runs, mut across, mut equal_roots) = (Vec::<Verdict>::new(), vec![], vec![]);
+        let (system_runs, facts) = SystemRun::split(facts);
         for fact in facts {
             match fact.kind {
                 FACT_RUN => runs.push(Verdict::begun(fact)?),
@@ -338,7 +343,7 @@ impl Judgement {
             }
         }
         let verdicts = if is_campaign { Verdicts::Campaign(runs, across) } else { Verdicts::Run(runs.pop()?) };
-        Some(Judgement { verdicts, equal_roots })
+        Some(Judgement { verdicts, equal_roots, system_runs })
     }
 
     /// The verdicts, run by run: one of a bundle.

@@ -1,0 +1,7 @@
+use Rattle.std.proofs.Common.{inr, refl}
+use Rattle.gen_ends.specs.declared.ends.JobEnd.TheVariants.{Failed}
+use Rattle.gen_ends.specs.declared.ends.JobFault.TheVariants as faults
+use Rattle.gen_program.proofs.systems.fail_enrolling.Goals as goal
+
+pub returns-in-Fault : goal.returns-in-Fault
+returns-in-Fault g c = inr (Failed faults.OtherRun, refl)

@@ -1,7 +1,0 @@
-use Rattle.std.proofs.Common.{◌≡◌, ◌++◌, string_bytes, take}
-use Rattle.std.specs.List.{flat_map}
-use Rattle.gen_show.specs.HeaderText.{equal_roots_line}
-use Rattle.gen_show.proofs.headers.push_equal_roots.Given as goal
-
-abbrev pub invariant-loop-pair : goal.invariant-loop-pair
-invariant-loop-pair l = string_bytes l.out ≡ string_bytes l.initial.out ++ flat_map equal_roots_line (take l.pair-index l.pairs)

@@ -1,7 +1,0 @@
-use Rattle.std.proofs.Common.{append_assoc}
-use Rattle.gen_show.specs.HeaderText.{equal_roots_line}
-use Rattle.gen_show.proofs.headers.push_pair.Goals as goal
-
-pub returns : goal.returns
-unfolding equal_roots_line
-returns c = simp append_assoc (simp (c.get-first.ensures.value, c.get-second.ensures.value) at c.write.ensures.bytes)

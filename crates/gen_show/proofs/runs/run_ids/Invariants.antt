@@ -1,6 +1,0 @@
-use Rattle.std.proofs.Common.{◌≡◌, take}
-use Rattle.gen_show.specs.Runs.{run_ids}
-use Rattle.gen_show.proofs.runs.run_ids.Given as goal
-
-abbrev pub invariant-bundles : goal.invariant-bundles
-invariant-bundles l = l.ids.items ≡ run_ids (take l.bundle-index l.bundles)

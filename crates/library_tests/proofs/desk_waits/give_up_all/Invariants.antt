@@ -1,0 +1,5 @@
+use Rattle.std.proofs.Common.{vec_len}
+use Rattle.library_tests.proofs.desk_waits.give_up_all.Given as goal
+
+abbrev pub decreases-loop-slip : goal.decreases-loop-slip
+decreases-loop-slip l = vec_len l.slips

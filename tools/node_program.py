@@ -1,0 +1,142 @@
+#!/usr/bin/env python3
+"""Builds the program vamuretu (vamuretu/) by cargo, over the archives of the libraries for C, and keeps of what it was
+made.
+
+    tools/node_program.py put TREE FOLDER    builds it in TREE, and puts it to FOLDER as vamuretu, with vamuretu.made beside it.
+                                             Where it can't be built here a line says why, and FOLDER has none
+    tools/node_program.py look TREE FOLDER   says in one line what is wrong with that of FOLDER, with status 1, or nothing
+
+vamuretu.made has the digests of the program, of its sources and of the two archives, and the compiler. The sources are what
+cargo reads of vamuretu/ and embed/rust/, and the heap. Nothing is fetched, and nothing is written to the sources but
+target/ and Cargo.lock, which is another on each version of Debian. The script `test` puts, and `dist` looks.
+"""
+import hashlib
+import os
+import re
+import shutil
+import subprocess
+import sys
+
+# Where Debian's packages of crates are, of vamuretu/packages, and one without which nothing is built.
+CRATES, NEEDED = "/usr/share/cargo/registry", "tokio-rustls-"
+OFFLINE = ["--offline", "--quiet"]
+# The oldest cargo that builds the program.
+OLDEST = (1, 80)
+ARCHIVES = ("sm_embed", "sm_node")
+SOURCES = ("vamuretu/Cargo.toml", "vamuretu/.cargo", "vamuretu/src")
+SOURCES += ("embed/rust/Cargo.toml", "embed/rust/build.rs", "embed/rust/src", "embed/heap.c", "embed/sm_heap.h")
+
+
+def digest(path):
+    with open(path, "rb") as file:
+        return hashlib.sha256(file.read()).hexdigest()
+
+
+def files_of(tree):
+    """The sources, sorted."""
+    found = []
+    for name in SOURCES:
+        path = os.path.join(tree, name)
+        found += [name] if os.path.isfile(path) else []
+        found += [os.path.relpath(os.path.join(at, it), tree) for at, _, names in os.walk(path) for it in names]
+    return sorted(found)
+
+
+def sources(tree):
+    """The digest of the sources."""
+    lines = [f"{digest(os.path.join(tree, name))}  {name}\n" for name in files_of(tree)]
+    return hashlib.sha256("".join(lines).encode()).hexdigest()
+
+
+def archive_of(tree, name):
+    """The archive of a library that embed/rust/build.rs links, or None."""
+    named = os.environ.get("VAMURETU_LIBRARIES")
+    folders = [named] if named else [os.path.join(tree, it) for it in (f"crates/{name}/out", "lib", "out")]
+    return next((it for it in (os.path.join(folder, f"lib{name}.a") for folder in folders) if os.path.exists(it)), None)
+
+
+def is_old():
+    """Whether cargo is older than the program needs, or tells no version."""
+    told = subprocess.run(["cargo", "--version"], capture_output=True, text=True, check=False).stdout
+    said = re.match(r"cargo (\d+)\.(\d+)", told)
+    return said is None or tuple(map(int, said.groups())) < OLDEST
+
+
+def what_lacks(tree):
+    """What is not there and is needed to build the program, in a few words, or None."""
+    if not all(archive_of(tree, name) for name in ARCHIVES):
+        return "the libraries for C are not built"
+    lacks = [it for it in ("cargo", "cc", "ar") if not shutil.which(it)]
+    lacks += [f"cargo {OLDEST[0]}.{OLDEST[1]}"] if "cargo" not in lacks and is_old() else []
+    here = os.listdir(CRATES) if os.path.isdir(CRATES) else []
+    lacks += [] if any(it.startswith(NEEDED) for it in here) else ["Debian's crates (vamuretu/packages)"]
+    return f"{', '.join(lacks)} not here" if lacks else None
+
+
+def build(tree):
+    """The path of the program, which is built if it is older than its sources. An error is the caller's."""
+    package = os.path.join(tree, "vamuretu")
+    subprocess.run(["cargo", "build", *OFFLINE, "--release"], cwd=package, capture_output=True, check=True)
+    return os.path.join(os.environ.get("CARGO_TARGET_DIR") or os.path.join(package, "target"), "release", "vamuretu")
+
+
+def record(tree, program):
+    """The text of vamuretu.made."""
+    compiler = subprocess.run(["rustc", "--version"], capture_output=True, text=True, check=True).stdout.strip()
+    lines = {"digest": digest(program), "sources": sources(tree), "compiler": compiler}
+    lines |= {name: digest(archive_of(tree, name)) for name in ARCHIVES}
+    return "".join(f"{name} {value}\n" for name, value in lines.items())
+
+
+def kept(program):
+    """What vamuretu.made says, by its names."""
+    with open(f"{program}.made", encoding="utf-8") as file:
+        return dict(line.rstrip("\n").split(" ", 1) for line in file)
+
+
+def put(tree, folder):
+    """Builds the program, and puts it to a folder. Returns the status."""
+    made = os.path.join(folder, "vamuretu")
+    for path in (f"{made}.made", made):
+        if os.path.lexists(path):
+            os.remove(path)
+    lacks = what_lacks(tree)
+    if lacks:
+        print(f"vamuretu is left out: {lacks}")
+        return 0
+    try:
+        shutil.copy(build(tree), made)
+    except subprocess.CalledProcessError as told:
+        print(told.stderr.decode(errors="replace")[-2000:])
+        return 1
+    with open(f"{made}.made", "w", encoding="utf-8") as file:
+        file.write(record(tree, made))
+    return 0
+
+
+def look(tree, folder):
+    """What is wrong with the program of a folder, in one line, or None."""
+    program = os.path.join(folder, "vamuretu")
+    if not os.path.exists(program):
+        return f"{program} is not there"
+    if not os.path.exists(f"{program}.made"):
+        return f"{program} is of unknown sources: {program}.made is not there"
+    told = kept(program)
+    if told.get("digest") != digest(program):
+        return f"{program} is not the file that was built: its digest is another"
+    if told.get("sources") != sources(tree):
+        return f"{program} was built from other sources than those of the checkout"
+    others = [it for it in ARCHIVES if told.get(it) != digest(os.path.join(folder, f"lib{it}.a"))]
+    return f"{program} was built over another lib{others[0]}.a" if others else None
+
+
+def main():
+    if len(sys.argv) == 4 and sys.argv[1] == "put":
+        return put(*sys.argv[2:])
+    if len(sys.argv) == 4 and sys.argv[1] == "look":
+        return look(*sys.argv[2:])
+    return __doc__
+
+
+if __name__ == "__main__":
+    sys.exit(main())

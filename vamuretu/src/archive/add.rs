@@ -1,0 +1,351 @@
+//! Files are judged by threads, and one thread writes what they answer into the index.
+
+use std::collections::BTreeMap;
+use std::fs::File;
+use std::io::{self, BufReader};
+use std::path::{Path, PathBuf};
+use std::sync::mpsc::{sync_channel, Receiver, RecvTimeoutError};
+use std::sync::{Arc, Mutex};
+use std::time::{Duration, Instant};
+
+use indicatif::{ProgressBar, ProgressStyle};
+use vamuretu::Fault;
+
+use super::files::{self, Listed, Names};
+use super::judged::{self, Admissions};
+use super::store::{Admission, Before, Judge, Outcome, Store};
+use crate::config::Id;
+use crate::watch::judge::digest;
+use crate::End;
+
+/// How many files, or how much time, one transaction has.
+const MOST_ROWS: usize = 64;
+const MOST_TIME: Duration = Duration::from_millis(100);
+/// What the name of an admission ends with, behind the number of a run of its set.
+const ADMISSION: &str = "admission";
+
+/// What is added to an index.
+#[derive(clap::Args)]
+pub struct Add {
+    /// The file of the index, which is made if it is not there
+    pub index: PathBuf,
+    /// Files, and folders with files whose names end in .bundle, .bundles, .bundle.zst or .bundles.zst
+    paths: Vec<PathBuf>,
+    /// Takes the names of files from this file too, a line each; from standard input if it is -
+    #[arg(long, value_name = "FILE")]
+    files_from: Option<PathBuf>,
+    /// Each of these names ends with a byte 0
+    #[arg(long, requires = "files_from", conflicts_with = "json_lines")]
+    null: bool,
+    /// Each of these lines is JSON: a name, or an object with the name as `path`
+    #[arg(long, requires = "files_from")]
+    json_lines: bool,
+    /// The id of the system whose runs the archive has
+    #[arg(long, value_name = "ID", value_parser = id_of)]
+    system: Option<Id>,
+    /// An admission, or a folder of them, each named R.admission for the number R of a run of its set
+    #[arg(long, value_name = "PATH")]
+    admissions: Vec<PathBuf>,
+    /// Reads each file again, also if its size and time are those of before
+    #[arg(long)]
+    read_all: bool,
+}
+
+/// What was done.
+#[derive(Debug, Default)]
+pub struct Done {
+    pub files: usize,
+    pub judged: usize,
+}
+
+/// The id of 64 hexadecimal digits.
+pub fn id_of(text: &str) -> Result<Id, String> {
+    let mut id = [0; 32];
+    hex::decode_to_slice(text, &mut id).map(|()| id).map_err(|told| told.to_string())
+}
+
+/// This program, as the one that answers.
+fn this_judge() -> Result<Judge, End> {
+    let own = Path::new("/proc/self/exe");
+    let program = digest(&std::fs::read(own).map_err(End::file(own))?);
+    Ok(Judge { library: vamuretu::version(), program })
+}
+
+/// Adds files to an index.
+pub fn add(words: &Add) -> Result<Done, End> {
+    let listed = list(words)?;
+    let _lock = crate::watch::lock(&words.index)?;
+    let judge = this_judge()?;
+    let mut store = Store::open(&words.index, words.system.as_ref())?;
+    let is_new = admit(&mut store, &words.admissions)?;
+    let admissions = store.admissions()?;
+    let before = store.before(&judge, is_new)?;
+    let is_gone = |path: &&PathBuf| {
+        !listed.files.contains(*path) && listed.folders.iter().any(|folder| path.starts_with(folder)) && !path.is_file()
+    };
+    store.mark_gone(&before.keys().filter(is_gone).collect::<Vec<_>>())?;
+    let (files, unread) = (listed.files.len(), unread(&listed));
+    let judged = unread.len();
+    store.write(&judge, &unread)?;
+    let tasks = tasks(listed, before, words.read_all);
+    let work = Work { judge, admissions };
+    let judged = judged + work.all(&mut store, tasks)?;
+    store.close()?;
+    Ok(Done { files, judged })
+}
+
+/// The files that the words name.
+fn list(words: &Add) -> Result<Listed, End> {
+    let mut listed = Listed::default();
+    words.paths.iter().for_each(|path| listed.take(path));
+    if let Some(path) = &words.files_from {
+        let names = match (words.null, words.json_lines) {
+            (true, _) => Names::Nulls,
+            (_, true) => Names::Json,
+            _ => Names::Lines,
+        };
+        let told = match path.as_os_str() == "-" {
+            true => listed.take_from(names, io::stdin().lock()),
+            false => listed.take_from(names, BufReader::new(File::open(path).map_err(End::file(path))?)),
+        };
+        told.map_err(End::file(path))?;
+    }
+    Ok(listed)
+}
+
+/// What could not be looked at, as files with a fault.
+fn unread(listed: &Listed) -> Vec<(PathBuf, Outcome)> {
+    let of = |(path, told): &(PathBuf, String)| (path.clone(), cannot_read(told));
+    listed.unread.iter().map(of).collect()
+}
+
+fn cannot_read(told: &impl std::fmt::Display) -> Outcome {
+    let stamp = files::Stamp { bytes: 0, modified: 0 };
+    Outcome::Judged { stamp, sha256: None, answer: Err(format!("unread: {told}")) }
+}
+
+// Admissions.
+
+/// Keeps the admissions of files and folders, and tells whether the runs of some of these are not known.
+fn admit(store: &mut Store, paths: &[PathBuf]) -> Result<bool, End> {
+    if paths.is_empty() {
+        return Ok(false);
+    }
+    let Some(system) = store.system()? else {
+        return Err(End::failed("admissions say nothing without --system, the id that is known from elsewhere"));
+    };
+    let admissions = read_admissions(paths, &system)?;
+    store.admit(&admissions)?;
+    Ok(admissions.iter().any(|it| !it.is_named))
+}
+
+/// Reads the admissions of files and folders.
+fn read_admissions(paths: &[PathBuf], system: &Id) -> Result<Vec<Admission>, End> {
+    let mut found = vec![];
+    for path in paths {
+        let path = std::path::absolute(path).map_err(End::file(path))?;
+        if path.is_dir() {
+            for file in std::fs::read_dir(&path).map_err(End::file(&path))? {
+                let file = file.map_err(End::file(&path))?.path();
+                found.extend(file.extension().is_some_and(|end| end == ADMISSION).then_some(file));
+            }
+        } else {
+            found.push(path);
+        }
+    }
+    found.sort();
+    let read = |path: PathBuf| std::fs::read(&path).map_err(End::file(&path)).map(|bytes| shown(path, bytes, system));
+    side_by_side(found, read).into_iter().collect()
+}
+
+/// The admissions of files and folders that hold, for an input that no index has.
+pub fn admissions_of(paths: &[PathBuf], system: Id) -> Result<Admissions, End> {
+    let mut admissions = Admissions { system: Some(system), ..Admissions::default() };
+    for it in read_admissions(paths, &system)? {
+        let bytes: Arc<[u8]> = it.bytes.into();
+        match it.runs {
+            Err(told) => return Err(End::fault(&it.path, told)),
+            Ok(_) if !it.is_named => admissions.others.push(bytes),
+            Ok(runs) => {
+                let id = |(run, _): (String, u32)| id_of(&run).ok().map(|id| (id, bytes.clone()));
+                admissions.of_runs.extend(runs.into_iter().filter_map(id));
+            }
+        }
+    }
+    Ok(admissions)
+}
+
+/// Which runs an admission shows. Its name has the number of one of them.
+fn shown(path: PathBuf, bytes: Vec<u8>, system: &Id) -> Admission {
+    let number = path.file_stem().and_then(|stem| stem.to_str()).and_then(|stem| stem.parse::<u32>().ok());
+    let (mut runs, mut nodes, sha256) = (vec![], 0, digest(&bytes));
+    let mut show = |number: u32| -> Result<(), Fault> {
+        let told = vamuretu::admit(number, &bytes, Some(system))?;
+        nodes = told.header.generals();
+        runs.push((hex::encode(told.header.run_id()?), number));
+        Ok(())
+    };
+    let end = match number {
+        // An admission admits no run of this number, and tells its other faults before that one.
+        None => show(u32::MAX).or_else(|told| match told {
+            Fault::Input(line) if line == "fault A8" => Ok(()),
+            told => Err(told),
+        }),
+        Some(number) => show(number).map(|()| {
+            // The runs of a set stand side by side, and each of them has its own header.
+            let _ = (1..=number).try_for_each(|less| show(number - less));
+            let _ = (number + 1..).try_for_each(&mut show);
+        }),
+    };
+    let runs = match end {
+        Ok(()) => Ok(runs),
+        Err(Fault::OtherSystem) => Err("of another system".to_owned()),
+        Err(told) => Err(told.to_string()),
+    };
+    Admission { path, sha256, bytes, nodes, is_named: number.is_some(), runs }
+}
+
+// Files.
+
+/// A file that is to be judged, unless its bytes are those of before.
+struct Task {
+    path: PathBuf,
+    bytes: u64,
+    /// The digest that this program has judged.
+    known: Option<String>,
+}
+
+/// The files that may have to be judged.
+fn tasks(listed: Listed, mut before: BTreeMap<PathBuf, Before>, read_all: bool) -> Vec<Task> {
+    let task = |path: PathBuf| {
+        let (stamp, was) = (files::stamp(&path).ok(), before.remove(&path));
+        let current = was.as_ref().filter(|was| was.is_current);
+        if !read_all && current.is_some_and(|was| Some(was.stamp) == stamp) {
+            return None;
+        }
+        let known = current.and_then(|was| was.sha256.clone());
+        Some(Task { path, bytes: stamp.map_or(0, |it| it.bytes), known })
+    };
+    listed.files.into_iter().filter_map(task).collect()
+}
+
+/// What threads need.
+struct Work {
+    judge: Judge,
+    admissions: Admissions,
+}
+
+impl Work {
+    /// Judges files by a thread for each core, and writes what is answered. Tells how many were judged.
+    fn all(&self, store: &mut Store, tasks: Vec<Task>) -> Result<usize, End> {
+        let (count, bytes) = (tasks.len(), tasks.iter().map(|it| it.bytes).sum());
+        let bar = bar_of(bytes);
+        let (to_write, outcomes) = sync_channel(MOST_ROWS);
+        let tasks = Mutex::new(tasks.into_iter());
+        std::thread::scope(|scope| {
+            for _ in 0..threads().min(count) {
+                let (to_write, tasks) = (to_write.clone(), &tasks);
+                scope.spawn(move || {
+                    let next = || tasks.lock().unwrap_or_else(|told| told.into_inner()).next();
+                    while let Some(task) = next() {
+                        let outcome = self.one(&task);
+                        if to_write.send((task, outcome)).is_err() {
+                            return;
+                        }
+                    }
+                });
+            }
+            drop(to_write);
+            self.write(store, outcomes, count, &bar)
+        })
+    }
+
+    /// Writes what threads answer, a batch at a time.
+    fn write(
+        &self,
+        store: &mut Store,
+        outcomes: Receiver<(Task, Outcome)>,
+        count: usize,
+        bar: &ProgressBar,
+    ) -> Result<usize, End> {
+        let (mut judged, mut seen) = (0, 0);
+        while let Some(batch) = next_batch(&outcomes) {
+            seen += batch.len();
+            judged += batch.iter().filter(|(_, it)| matches!(it, Outcome::Judged { .. })).count();
+            let bytes = batch.iter().map(|(task, _)| task.bytes).sum();
+            store.write(&self.judge, &batch.into_iter().map(|(task, it)| (task.path, it)).collect::<Vec<_>>())?;
+            bar.inc(bytes);
+            bar.set_message(format!("{seen} of {count} files"));
+        }
+        bar.finish_and_clear();
+        match seen == count {
+            true => Ok(judged),
+            false => Err(End::failed("a thread has failed")),
+        }
+    }
+
+    /// What becomes of a file.
+    fn one(&self, task: &Task) -> Outcome {
+        let content = match files::read(&task.path) {
+            Ok(content) => content,
+            Err(told) => return cannot_read(&told),
+        };
+        let (stamp, sha256) = (content.stamp, content.sha256);
+        if task.known.as_ref() == Some(&sha256) {
+            return Outcome::Same(stamp);
+        }
+        let memory = "memory was refused".to_owned();
+        match content.input.map(|input| judged::judge(&input, &self.admissions)) {
+            Ok(Ok(answer)) => Outcome::Judged { stamp, sha256: Some(sha256), answer: Ok(answer) },
+            Ok(Err(Fault::Memory)) => Outcome::Judged { stamp, sha256: None, answer: Err(memory) },
+            Ok(Err(fault)) => Outcome::Judged { stamp, sha256: Some(sha256), answer: Err(fault.to_string()) },
+            Err(told) if told.kind() == io::ErrorKind::OutOfMemory => {
+                Outcome::Judged { stamp, sha256: None, answer: Err(memory) }
+            }
+            Err(told) => Outcome::Judged { stamp, sha256: Some(sha256), answer: Err(told.to_string()) },
+        }
+    }
+}
+
+/// What goes into the next transaction: `None` if nothing is left.
+fn next_batch<T>(outcomes: &Receiver<T>) -> Option<Vec<T>> {
+    let (mut batch, begun) = (vec![outcomes.recv().ok()?], Instant::now());
+    while batch.len() < MOST_ROWS {
+        match outcomes.recv_timeout(MOST_TIME.saturating_sub(begun.elapsed())) {
+            Ok(outcome) => batch.push(outcome),
+            Err(RecvTimeoutError::Timeout | RecvTimeoutError::Disconnected) => break,
+        }
+    }
+    Some(batch)
+}
+
+/// How many threads judge at a time: as many as there are cores.
+fn threads() -> usize {
+    std::thread::available_parallelism().map_or(1, |it| it.get())
+}
+
+/// Does something for each of several values, by a thread for each core, and tells the results in their order.
+fn side_by_side<T: Send, R: Send>(values: Vec<T>, act: impl Fn(T) -> R + Sync) -> Vec<R> {
+    let each = values.len().div_ceil(threads()).max(1);
+    let mut values = values.into_iter();
+    std::thread::scope(|scope| {
+        let mut started = vec![];
+        loop {
+            let share: Vec<T> = values.by_ref().take(each).collect();
+            if share.is_empty() {
+                break;
+            }
+            started.push(scope.spawn(|| share.into_iter().map(&act).collect::<Vec<_>>()));
+        }
+        started.into_iter().flat_map(|it| it.join().unwrap_or_else(|told| std::panic::resume_unwind(told))).collect()
+    })
+}
+
+/// What a terminal shows meanwhile.
+fn bar_of(bytes: u64) -> ProgressBar {
+    let bar = ProgressBar::new(bytes);
+    let form = "{bar:30} {msg}, {bytes} of {total_bytes}, {bytes_per_sec}, {eta} left";
+    bar.set_style(ProgressStyle::with_template(form).unwrap_or_else(|_| ProgressStyle::default_bar()));
+    bar.set_message("0 files");
+    bar
+}

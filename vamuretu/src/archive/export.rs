@@ -1,0 +1,131 @@
+//! All rows of an index, as CSV with a row of names, as lines of JSON, or as `sha256sum` takes them.
+
+use std::io::{self, Write};
+
+use serde_json::{json, Map, Value};
+
+use super::read::{put_path, Kept, Reader};
+use crate::End;
+
+/// How rows are written.
+#[derive(Debug, Clone, Copy, PartialEq, Eq)]
+pub enum Form {
+    Csv,
+    Json,
+    Digests,
+}
+
+/// The columns of a row, in their order.
+const COLUMNS: [&str; 21] = [
+    "number",
+    "run",
+    "verdict",
+    "value",
+    "listed",
+    "missing",
+    "suspected",
+    "equal_roots",
+    "convicted",
+    "fault",
+    "path",
+    "path_hex",
+    "place",
+    "bytes",
+    "modified",
+    "sha256",
+    "input",
+    "library",
+    "program",
+    "judged",
+    "gone",
+];
+
+fn object_of(row: &Kept) -> Map<String, Value> {
+    let value = json!({
+        "number": row.number, "run": row.run_id, "verdict": row.verdict, "value": row.value, "listed": row.listed,
+        "missing": row.missing, "suspected": row.suspected, "equal_roots": row.equal_roots, "convicted": row.convicted,
+        "fault": row.fault, "place": row.place, "bytes": row.bytes, "modified": row.modified, "sha256": row.sha256,
+        "input": row.input, "library": row.library, "program": row.program, "judged": row.judged, "gone": row.gone,
+    });
+    let Value::Object(mut object) = value else { return Map::new() };
+    if let Some(path) = &row.path {
+        put_path(&mut object, path);
+    }
+    object
+}
+
+/// A value as a field of CSV: nothing for null, a text as it is, and else as JSON has it.
+fn field(value: Option<&Value>) -> String {
+    match value {
+        None | Some(Value::Null) => String::new(),
+        Some(Value::String(text)) => text.clone(),
+        Some(value) => value.to_string(),
+    }
+}
+
+/// The line of `sha256sum` of a file that is there.
+pub fn digest_line(row: &Kept) -> Option<Vec<u8>> {
+    let (digest, path) = (row.sha256.as_ref()?, row.path.as_ref().filter(|_| !row.gone && row.place == 0)?);
+    let name = std::os::unix::ffi::OsStrExt::as_bytes(path.as_os_str());
+    let is_plain = !name.iter().any(|byte| b"\\\n\r".contains(byte));
+    let escaped = name.iter().flat_map(|byte| match byte {
+        b'\\' => b"\\\\".to_vec(),
+        b'\n' => b"\\n".to_vec(),
+        b'\r' => b"\\r".to_vec(),
+        byte => vec![*byte],
+    });
+    let mark = if is_plain { "" } else { "\\" };
+    Some([format!("{mark}{digest}  ").into_bytes(), escaped.collect(), b"\n".to_vec()].concat())
+}
+
+/// Standard output, which a reader may close when it has read enough.
+pub struct Output(io::StdoutLock<'static>);
+
+impl Output {
+    pub fn new() -> Output {
+        Output(io::stdout().lock())
+    }
+}
+
+/// What became of bytes that nobody reads any more is no fault.
+fn unread<T>(told: io::Result<T>, written: T) -> io::Result<T> {
+    match told {
+        Err(told) if told.kind() == io::ErrorKind::BrokenPipe => Ok(written),
+        told => told,
+    }
+}
+
+impl Write for Output {
+    fn write(&mut self, bytes: &[u8]) -> io::Result<usize> {
+        unread(self.0.write(bytes), bytes.len())
+    }
+
+    fn flush(&mut self) -> io::Result<()> {
+        unread(self.0.flush(), ())
+    }
+}
+
+/// Writes all rows.
+pub fn write(reader: &Reader, form: Form, to: impl Write) -> Result<(), End> {
+    let unusable = |told: io::Error| End::unusable("standard output", &told);
+    let mut to = io::BufWriter::new(to);
+    if form == Form::Csv {
+        let mut csv = csv::Writer::from_writer(&mut to);
+        let failed = |told: csv::Error| unusable(io::Error::other(told));
+        csv.write_record(COLUMNS).map_err(failed)?;
+        reader.each_kept(|row| {
+            let object = object_of(&row);
+            csv.write_record(COLUMNS.map(|name| field(object.get(name)))).map_err(failed)
+        })?;
+        csv.flush().map_err(unusable)?;
+    } else {
+        reader.each_kept(|row| {
+            let line = match form {
+                Form::Digests => digest_line(&row).unwrap_or_default(),
+                _ => format!("{}\n", Value::Object(object_of(&row))).into_bytes(),
+            };
+            to.write_all(&line).map_err(unusable)
+        })?;
+    }
+    to.flush().map_err(unusable)
+}

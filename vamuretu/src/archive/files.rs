@@ -1,0 +1,259 @@
+//! The files of an archive: which there are, and what they hold.
+//!
+//! A file that somebody else has made can be of any size, and a compressed one can hold far more. So what a file unpacks to
+//! is counted before any of it is kept.
+
+use std::collections::BTreeSet;
+use std::ffi::OsStr;
+use std::fs::File;
+use std::io::{self, BufRead, Read};
+use std::os::unix::ffi::{OsStrExt, OsStringExt};
+use std::os::unix::fs::MetadataExt;
+use std::path::{Path, PathBuf};
+
+use serde::Deserialize;
+use walkdir::WalkDir;
+
+use crate::watch::judge::{digest, WINDOW};
+
+/// The most bytes that an input of the library has, as `sm_tool` takes them.
+pub const MOST_INPUT: u64 = 1 << 30;
+/// What the names of bundles and campaigns end with in a folder, and what a compressed one has behind.
+const ENDS: [&str; 2] = [".bundle", ".bundles"];
+const PACKED: &str = ".zst";
+
+/// What is known of a file without reading it.
+#[derive(Debug, Clone, Copy, PartialEq, Eq)]
+pub struct Stamp {
+    pub bytes: u64,
+    /// When it was changed last, in nanoseconds since 1970.
+    pub modified: i64,
+}
+
+/// What a file holds.
+#[derive(Debug)]
+pub struct Content {
+    pub stamp: Stamp,
+    /// The SHA-256 of the file as it is stored.
+    pub sha256: String,
+    /// What the library is handed, or why there is nothing to hand.
+    pub input: io::Result<Vec<u8>>,
+}
+
+/// What is to be judged.
+#[derive(Debug, Default, PartialEq, Eq)]
+pub struct Listed {
+    pub files: BTreeSet<PathBuf>,
+    /// The folders that were looked through.
+    pub folders: Vec<PathBuf>,
+    /// What could not be looked at, and why.
+    pub unread: Vec<(PathBuf, String)>,
+}
+
+/// How the names of files come that stand in a file.
+#[derive(Debug, Clone, Copy, PartialEq, Eq)]
+pub enum Names {
+    Lines,
+    Nulls,
+    Json,
+}
+
+/// A line with the name of a file: the name alone, or an object as `archive export --json` or `each.py` has it.
+#[derive(Deserialize)]
+#[serde(untagged)]
+enum Named {
+    Alone(String),
+    Row {
+        #[serde(alias = "file")]
+        path: Option<String>,
+        path_hex: Option<String>,
+    },
+}
+
+fn wrong(said: impl Into<String>) -> io::Error {
+    io::Error::new(io::ErrorKind::InvalidData, said.into())
+}
+
+/// What is wrong with an input that is too long.
+fn too_long(how: &str) -> io::Error {
+    wrong(format!("{how} more than {MOST_INPUT} bytes"))
+}
+
+fn stamp_of(of: &std::fs::Metadata) -> io::Result<Stamp> {
+    if !of.is_file() {
+        return Err(wrong("no file"));
+    }
+    let modified = of.mtime().saturating_mul(1_000_000_000).saturating_add(of.mtime_nsec());
+    Ok(Stamp { bytes: of.len(), modified })
+}
+
+/// What is known of a file.
+pub fn stamp(path: &Path) -> io::Result<Stamp> {
+    stamp_of(&std::fs::metadata(path)?)
+}
+
+/// Reads a file. What it unpacks to may be refused though the file can be read.
+pub fn read(path: &Path) -> io::Result<Content> {
+    // A name that has become a pipe meanwhile must not hold up a thread.
+    stamp(path)?;
+    let file = File::open(path)?;
+    let stamp = stamp_of(&file.metadata()?)?;
+    if stamp.bytes > MOST_INPUT {
+        return Err(too_long("it has"));
+    }
+    let mut stored = Vec::new();
+    file.take(MOST_INPUT + 1).read_to_end(&mut stored)?;
+    let sha256 = digest(&stored);
+    let input = match stored.len() as u64 > MOST_INPUT {
+        true => Err(too_long("it has")),
+        false if path.as_os_str().as_bytes().ends_with(PACKED.as_bytes()) => unpack(&stored, MOST_INPUT),
+        false => Ok(stored),
+    };
+    Ok(Content { stamp, sha256, input })
+}
+
+/// What was compressed by zstd, if it has at most so many bytes. It is counted first, in little memory.
+pub fn unpack(stored: &[u8], most: u64) -> io::Result<Vec<u8>> {
+    let unpacked = || {
+        let mut zstd = zstd::stream::read::Decoder::with_buffer(stored)?;
+        zstd.window_log_max(WINDOW)?;
+        io::Result::Ok(zstd.take(most + 1))
+    };
+    let length = io::copy(&mut unpacked()?, &mut io::sink())?;
+    if length > most {
+        return Err(wrong(format!("it unpacks to more than {most} bytes")));
+    }
+    let mut input = Vec::new();
+    input.try_reserve_exact(length as usize).map_err(|_| io::Error::from(io::ErrorKind::OutOfMemory))?;
+    unpacked()?.read_to_end(&mut input)?;
+    Ok(input)
+}
+
+/// Whether a name is that of a bundle or a campaign.
+fn is_bundle(name: &OsStr) -> bool {
+    let name = name.as_bytes();
+    let name = name.strip_suffix(PACKED.as_bytes()).unwrap_or(name);
+    ENDS.iter().any(|end| name.ends_with(end.as_bytes()))
+}
+
+impl Listed {
+    /// Takes a file by its name, and of a folder all bundles and campaigns below it, but no symbolic link.
+    pub fn take(&mut self, path: &Path) {
+        let path = std::path::absolute(path).unwrap_or_else(|_| path.to_owned());
+        if !path.is_dir() {
+            self.files.insert(path);
+            return;
+        }
+        for found in WalkDir::new(&path) {
+            match found {
+                Ok(it) if it.file_type().is_file() && is_bundle(it.file_name()) => {
+                    let _ = self.files.insert(it.into_path());
+                }
+                Ok(_) => {}
+                Err(told) => {
+                    let at = told.path().unwrap_or(&path).to_owned();
+                    self.unread.push((at, told.into_io_error().map_or_else(|| "a loop".into(), |it| it.to_string())));
+                }
+            }
+        }
+        self.folders.push(path);
+    }
+
+    /// Takes the files and folders whose names a reader has.
+    pub fn take_from(&mut self, names: Names, mut from: impl BufRead) -> io::Result<()> {
+        let end = if names == Names::Nulls { 0 } else { b'\n' };
+        let mut name = vec![];
+        while from.read_until(end, &mut name)? > 0 {
+            if name.last() == Some(&end) {
+                name.pop();
+            }
+            if !name.is_empty() {
+                self.take(&path_of(names, std::mem::take(&mut name))?);
+            }
+            name.clear();
+        }
+        Ok(())
+    }
+}
+
+/// The path of a name.
+fn path_of(names: Names, name: Vec<u8>) -> io::Result<PathBuf> {
+    let bytes = match names {
+        Names::Lines | Names::Nulls => name,
+        Names::Json => match serde_json::from_slice(&name)? {
+            Named::Row { path_hex: Some(digits), .. } => hex::decode(digits).map_err(|told| wrong(told.to_string()))?,
+            Named::Alone(path) | Named::Row { path: Some(path), .. } => path.into_bytes(),
+            Named::Row { .. } => return Err(wrong("a line has no path")),
+        },
+    };
+    Ok(PathBuf::from(std::ffi::OsString::from_vec(bytes)))
+}
+
+#[cfg(test)]
+mod tests {
+    use super::*;
+    use crate::watch::judge::pack;
+
+    fn folder(name: &str) -> PathBuf {
+        let folder = std::env::temp_dir().join(format!("vamuretu-{name}-{}", std::process::id()));
+        let _ = std::fs::remove_dir_all(&folder);
+        std::fs::create_dir_all(&folder).expect("a folder");
+        folder
+    }
+
+    #[test]
+    fn what_a_folder_has() {
+        let folder = folder("files");
+        std::fs::create_dir(folder.join("below")).expect("a folder");
+        std::fs::create_dir(folder.join("folder.bundle")).expect("a folder");
+        for name in ["a.bundle", "below/b.bundles.zst", "below/c.txt", "below/d.zst", "e.bundle.new"] {
+            std::fs::write(folder.join(name), "x").expect("a file");
+        }
+        std::os::unix::fs::symlink(folder.join("a.bundle"), folder.join("link.bundle")).expect("a link");
+        let mut listed = Listed::default();
+        listed.take(&folder);
+        listed.take(&folder.join("below/c.txt"));
+        listed.take(&folder.join("none"));
+        let wanted = ["a.bundle", "below/b.bundles.zst", "below/c.txt", "none"].map(|name| folder.join(name));
+        assert_eq!((listed.files, listed.folders, listed.unread.len()), (wanted.into(), vec![folder.clone()], 0));
+        std::fs::remove_dir_all(folder).expect("a folder");
+    }
+
+    #[test]
+    fn names_that_stand_in_a_file() {
+        let told = |names, bytes: &[u8]| {
+            let mut listed = Listed::default();
+            listed.take_from(names, bytes).map(|()| listed.files.into_iter().collect::<Vec<_>>())
+        };
+        let paths = |names: &[&[u8]]| names.iter().map(|it| PathBuf::from(OsStr::from_bytes(it))).collect::<Vec<_>>();
+        assert_eq!(told(Names::Lines, b"/x/a b\n\n/x/\xff").expect("names"), paths(&[b"/x/a b", b"/x/\xff"]));
+        assert_eq!(told(Names::Nulls, b"/x/a\nb\0/x/c\0").expect("names"), paths(&[b"/x/a\nb", b"/x/c"]));
+        let lines = b"\"/x/a\\nb\"\n{\"file\":\"/x/c\",\"number\":3}\n{\"path\":\"?\",\"path_hex\":\"2f78ff\"}\n";
+        assert_eq!(told(Names::Json, lines).expect("names"), paths(&[b"/x/a\nb", b"/x/c", b"/x\xff"]));
+        assert!(told(Names::Json, b"{}\n").is_err() && told(Names::Json, b"/x/a\n").is_err());
+    }
+
+    #[test]
+    fn what_a_file_unpacks_to_has_a_bound() {
+        let zeros = vec![0; 1 << 20];
+        let packed = pack(&zeros).expect("memory");
+        assert_eq!(unpack(&packed, 1 << 20).expect("compressed"), zeros);
+        let told = unpack(&packed, (1 << 20) - 1).expect_err("too long").to_string();
+        assert_eq!(told, "it unpacks to more than 1048575 bytes");
+        assert_eq!(unpack(&[&packed[..], &packed[..]].concat(), 2 << 20).expect("compressed").len(), 2 << 20);
+        assert!(unpack(&packed[..9], 1 << 20).is_err() && unpack(b"no such bytes", 99).is_err());
+    }
+
+    #[test]
+    fn what_a_file_holds() {
+        let folder = folder("content");
+        std::fs::write(folder.join("a.bundle.zst"), pack(b"abc").expect("memory")).expect("a file");
+        std::fs::write(folder.join("b.bundle.zst"), "abc").expect("a file");
+        let read = |name: &str| read(&folder.join(name)).expect("a file");
+        assert_eq!(read("a.bundle.zst").input.expect("compressed"), b"abc");
+        let bad = read("b.bundle.zst");
+        assert_eq!((bad.stamp.bytes, bad.sha256, bad.input.is_err()), (3, digest(b"abc"), true));
+        assert!(super::read(&folder).is_err() && super::read(&folder.join("none")).is_err());
+        std::fs::remove_dir_all(folder).expect("a folder");
+    }
+}

@@ -1,0 +1,97 @@
+//! An archive of bundles: files are judged by the proved library, an index keeps what was answered of each, and tells it.
+//! The index is that of a watcher, with tables of its own ([`crate::watch::index`]).
+
+mod add;
+mod export;
+pub mod files;
+pub mod judged;
+pub mod read;
+mod store;
+
+use std::io::{self, Write};
+use std::path::PathBuf;
+
+use serde_json::json;
+
+use crate::End;
+use add::Add;
+pub use add::{admissions_of, id_of};
+use export::Output;
+pub use export::{digest_line, Form};
+use read::{Question, Range, Reader};
+
+/// What is done with an index.
+#[derive(clap::Subcommand)]
+pub enum Archive {
+    /// Judges files, but for those that were judged and have not changed, and keeps in the index what is answered
+    Add(Add),
+    /// Answers a question by lines, or by objects of JSON; the status is 1 if there are any
+    Ask {
+        /// The file of the index
+        index: PathBuf,
+        /// What is asked
+        question: Question,
+        #[command(flatten)]
+        range: Range,
+        /// Writes a line of JSON for each line
+        #[arg(long)]
+        json: bool,
+    },
+    /// Writes a row for each run of each file, and one for each file that cannot be judged
+    Export {
+        /// The file of the index
+        index: PathBuf,
+        /// As CSV, with a row of names in front
+        #[arg(long, required_unless_present_any = ["json", "digests"])]
+        csv: bool,
+        /// As lines of JSON
+        #[arg(long, conflicts_with = "csv")]
+        json: bool,
+        /// Lines of `sha256sum` in place of rows
+        #[arg(long, conflicts_with_all = ["csv", "json"])]
+        digests: bool,
+    },
+}
+
+/// Writes to standard output.
+fn write(text: &str) -> Result<(), End> {
+    let mut output = Output::new();
+    let written = output.write_all(text.as_bytes()).and_then(|()| output.flush());
+    written.map_err(|told: io::Error| End::unusable("standard output", &told))
+}
+
+/// Does what is asked, and tells whether something is found that is not as it should be.
+pub fn perform(asked: &Archive) -> Result<bool, End> {
+    match asked {
+        Archive::Add(words) => {
+            let done = add::add(words)?;
+            let reader = Reader::open(&words.index)?;
+            let mut counts = std::collections::BTreeMap::<String, usize>::new();
+            reader.each_kept(|row| {
+                let is_kept = row.source == "archive" && !row.gone;
+                let of = row.verdict.unwrap_or_else(|| "faults".into());
+                *counts.entry(of).or_default() += usize::from(is_kept);
+                Ok(())
+            })?;
+            counts.retain(|_, count| *count > 0);
+            let told = json!({ "files": done.files, "judged": done.judged, "index": counts });
+            write(&format!("{told}\n"))?;
+            Ok(counts.keys().any(|it| it != "agreed"))
+        }
+        Archive::Ask { index, question, range, json } => {
+            let found = Reader::open(index)?.ask(*question, *range)?;
+            let line = |it: &read::Found| if *json { format!("{}\n", it.json()) } else { format!("{}\n", it.line()) };
+            write(&found.iter().map(line).collect::<String>())?;
+            Ok(!found.is_empty())
+        }
+        Archive::Export { index, json, digests, .. } => {
+            let form = match (json, digests) {
+                (true, _) => Form::Json,
+                (_, true) => Form::Digests,
+                _ => Form::Csv,
+            };
+            export::write(&Reader::open(index)?, form, Output::new())?;
+            Ok(false)
+        }
+    }
+}

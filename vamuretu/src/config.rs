@@ -1,0 +1,399 @@
+//! The configuration: one TOML file for a node, and one for a watcher. Paths count from the folder of the file.
+
+use std::collections::BTreeMap;
+use std::fs;
+use std::net::SocketAddr;
+use std::path::{Path, PathBuf};
+
+use serde::de::{DeserializeOwned, Error};
+use serde::{Deserialize, Deserializer};
+
+use crate::End;
+
+/// The id of a system.
+pub type Id = [u8; 32];
+
+/// The most runs that may be under way at a time, by the timetable.
+const MOST_UNDER_WAY: u64 = 64;
+/// The orders that a header can have at most.
+const MOST_ORDERS: usize = 15;
+
+/// The system that a node is of, or that a watcher watches.
+#[derive(Debug, Clone, Deserialize)]
+#[serde(deny_unknown_fields)]
+pub struct System {
+    /// The file that `sm_tool system` wrote.
+    pub file: PathBuf,
+    /// The id that this file has to have.
+    #[serde(deserialize_with = "digits")]
+    pub id: Id,
+    /// The files of roots of all nodes, node 0 first.
+    pub roots: Vec<PathBuf>,
+}
+
+/// When runs begin, and how long a round is.
+#[derive(Debug, Clone, Copy, PartialEq, Eq, Deserialize)]
+#[serde(deny_unknown_fields)]
+pub struct Clock {
+    /// Whose word it is that the system's clock is right.
+    pub source: Source,
+    /// When run 0 begins, in milliseconds since 1970.
+    #[serde(deserialize_with = "moment")]
+    pub start: i64,
+    /// From the beginning of a run to that of the next.
+    pub period_ms: u32,
+    /// The length of a round.
+    pub round_ms: u32,
+    /// How wrong the clock may be.
+    pub bound_ms: u32,
+}
+
+/// Whose word it is that the system's clock is right.
+#[derive(Debug, Clone, Copy, PartialEq, Eq, Deserialize)]
+#[serde(rename_all = "lowercase")]
+pub enum Source {
+    /// The kernel's own estimate.
+    Kernel,
+    /// Whoever wrote the configuration: nothing is asked.
+    Assumed,
+}
+
+/// The keys of a connection: without them it is plain, and a tunnel protects it.
+#[derive(Debug, Clone, Deserialize)]
+#[serde(deny_unknown_fields)]
+pub struct Tls {
+    /// The own certificate, and what stands between it and the authority.
+    pub certificate: PathBuf,
+    pub key: PathBuf,
+    /// The certificate of whoever signed those of all nodes and watchers.
+    pub authority: PathBuf,
+}
+
+#[derive(Debug, Clone, Deserialize)]
+#[serde(deny_unknown_fields)]
+pub struct Node {
+    /// The number of the node in the system.
+    pub number: u32,
+    /// The file of the state, 68 bytes.
+    pub state: PathBuf,
+    /// The file of the mark, which belongs to another disk; without it beside the state.
+    mark: Option<PathBuf>,
+    /// The folder of the logs.
+    pub spool: PathBuf,
+    /// Where neighbours of greater numbers connect to.
+    pub listen: SocketAddr,
+}
+
+impl Node {
+    /// The file of the mark.
+    pub fn mark(&self) -> PathBuf {
+        self.mark.clone().unwrap_or_else(|| self.state.with_extension("mark"))
+    }
+}
+
+/// A node, as others reach it.
+#[derive(Debug, Clone, Deserialize)]
+#[serde(deny_unknown_fields)]
+pub struct Peer {
+    pub number: u32,
+    pub address: SocketAddr,
+    /// The name in its certificate; without it `node-NUMBER`.
+    pub name: Option<String>,
+}
+
+impl Peer {
+    pub fn name(&self) -> String {
+        self.name.clone().unwrap_or_else(|| format!("node-{}", self.number))
+    }
+}
+
+/// A watcher, to which the logs go.
+#[derive(Debug, Clone, Deserialize)]
+#[serde(deny_unknown_fields)]
+pub struct Watcher {
+    pub address: SocketAddr,
+    /// The name in its certificate.
+    #[serde(default = "watcher_name")]
+    pub name: String,
+}
+
+fn watcher_name() -> String {
+    "watcher".into()
+}
+
+#[derive(Debug, Clone, Deserialize)]
+#[serde(deny_unknown_fields)]
+pub struct Local {
+    /// The Unix socket of proposals and decisions.
+    pub socket: PathBuf,
+}
+
+#[derive(Debug, Clone, Deserialize)]
+#[serde(deny_unknown_fields)]
+pub struct Metrics {
+    /// The local address where the metrics are read.
+    pub address: SocketAddr,
+}
+
+#[derive(Debug, Clone, Deserialize)]
+#[serde(deny_unknown_fields)]
+pub struct Spool {
+    /// How long a log is kept that a watcher has acknowledged.
+    pub days: u32,
+    /// How many bytes the logs have at most.
+    pub most_bytes: u64,
+}
+
+/// The file of a node.
+#[derive(Debug, Clone, Deserialize)]
+#[serde(deny_unknown_fields)]
+pub struct NodeFile {
+    pub system: System,
+    pub node: Node,
+    /// The neighbours. The node itself may stand among them, so that all nodes have one list.
+    peers: Vec<Peer>,
+    #[serde(default)]
+    pub watchers: Vec<Watcher>,
+    pub tls: Option<Tls>,
+    pub clock: Clock,
+    /// The number of each order by its name.
+    pub orders: BTreeMap<String, u8>,
+    pub local: Local,
+    pub metrics: Option<Metrics>,
+    pub spool: Spool,
+}
+
+#[derive(Debug, Clone, Deserialize)]
+#[serde(deny_unknown_fields)]
+pub struct Watch {
+    pub listen: SocketAddr,
+    /// Where bundles, verdicts and evidence are kept.
+    pub folder: PathBuf,
+    /// The file of the index.
+    pub database: PathBuf,
+    /// How long after the end of a run its logs are waited for.
+    pub deadline_ms: u32,
+    /// The first run that is watched.
+    #[serde(default)]
+    pub first: u32,
+}
+
+#[derive(Debug, Clone, Default, Deserialize)]
+#[serde(deny_unknown_fields)]
+pub struct Alarms {
+    /// A program that is started on each alarm.
+    pub hook: Option<PathBuf>,
+}
+
+/// The file of a watcher.
+#[derive(Debug, Clone, Deserialize)]
+#[serde(deny_unknown_fields)]
+pub struct WatchFile {
+    pub system: System,
+    pub watch: Watch,
+    pub clock: Clock,
+    pub tls: Option<Tls>,
+    #[serde(default)]
+    pub alarms: Alarms,
+    pub metrics: Option<Metrics>,
+}
+
+/// 32 bytes of 64 hexadecimal digits.
+fn digits<'de, D: Deserializer<'de>>(from: D) -> Result<Id, D::Error> {
+    let text = String::deserialize(from)?;
+    let mut id = [0; 32];
+    hex::decode_to_slice(&text, &mut id)
+        .map_err(|told| D::Error::custom(format!("not 64 hexadecimal digits: {told}")))?;
+    Ok(id)
+}
+
+/// A moment as TOML and people write it.
+#[derive(Deserialize)]
+#[serde(untagged)]
+enum Moment {
+    Milliseconds(i64),
+    Date(toml::value::Datetime),
+    Text(String),
+}
+
+/// Milliseconds since 1970, of a number of these or of an RFC 3339 text that ends with Z.
+fn moment<'de, D: Deserializer<'de>>(from: D) -> Result<i64, D::Error> {
+    let text = match Moment::deserialize(from)? {
+        Moment::Milliseconds(number) => return Ok(number),
+        Moment::Date(date) => date.to_string(),
+        Moment::Text(text) => text,
+    };
+    let time = humantime::parse_rfc3339(&text).map_err(D::Error::custom)?;
+    let since = time.duration_since(std::time::UNIX_EPOCH).map_err(D::Error::custom)?;
+    i64::try_from(since.as_millis()).map_err(D::Error::custom)
+}
+
+/// What the files of nodes and watchers have in common.
+pub trait File: DeserializeOwned {
+    /// All paths of the file.
+    fn paths(&mut self) -> Vec<&mut PathBuf>;
+
+    /// What is wrong with it, though it can be read.
+    fn wrong(&self) -> Option<String>;
+}
+
+fn paths_of<'a>(system: &'a mut System, tls: &'a mut Option<Tls>) -> Vec<&'a mut PathBuf> {
+    let mut paths = vec![&mut system.file];
+    paths.extend(&mut system.roots);
+    if let Some(tls) = tls {
+        paths.extend([&mut tls.certificate, &mut tls.key, &mut tls.authority]);
+    }
+    paths
+}
+
+impl Clock {
+    fn wrong(&self) -> Option<String> {
+        if self.period_ms == 0 || self.round_ms < 4 {
+            return Some("[clock]: a period has 1 ms at least, and a round 4".into());
+        }
+        if u64::from(self.round_ms) * 16 > u64::from(self.period_ms) * MOST_UNDER_WAY {
+            return Some(format!("[clock]: more than {MOST_UNDER_WAY} runs may be under way"));
+        }
+        (self.bound_ms > self.round_ms / 4).then(|| "[clock]: bound_ms is above a quarter of a round".into())
+    }
+}
+
+impl File for NodeFile {
+    fn paths(&mut self) -> Vec<&mut PathBuf> {
+        let mut paths = paths_of(&mut self.system, &mut self.tls);
+        paths.extend([&mut self.node.state, &mut self.node.spool, &mut self.local.socket]);
+        paths.extend(&mut self.node.mark);
+        paths
+    }
+
+    fn wrong(&self) -> Option<String> {
+        let nodes = self.system.roots.len();
+        if !(2..=16).contains(&nodes) || self.node.number as usize >= nodes {
+            return Some("[system] roots, [node] number: there is one file for each of 2 to 16 nodes".into());
+        }
+        let mut met = vec![];
+        for peer in &self.peers {
+            if peer.number as usize >= nodes || met.contains(&peer.number) {
+                return Some(format!("[[peers]]: number {} is no node's, or comes twice", peer.number));
+            }
+            met.push(peer.number);
+        }
+        let mut numbers: Vec<usize> = self.orders.values().map(|&order| order.into()).collect();
+        numbers.sort_unstable();
+        if !(2..=MOST_ORDERS).contains(&numbers.len()) || numbers.iter().enumerate().any(|(place, &it)| place != it) {
+            return Some("[orders]: 2 to 15 names have the numbers from 0 on, each once".into());
+        }
+        if self.orders.keys().any(|name| name.is_empty() || name.chars().any(char::is_control)) {
+            return Some("[orders]: a name has characters, and no control character".into());
+        }
+        self.clock.wrong()
+    }
+}
+
+impl NodeFile {
+    /// The text whose SHA-256 is the context of the system: the timetable, and what the orders mean.
+    pub fn context_text(&self) -> String {
+        let Clock { start, period_ms, round_ms, .. } = self.clock;
+        let mut orders: Vec<(u8, &str)> = self.orders.iter().map(|(name, &order)| (order, name.as_str())).collect();
+        orders.sort_unstable();
+        let lines: Vec<String> = orders.iter().map(|(order, name)| format!("order {order} {name}\n")).collect();
+        format!("start {start}\nperiod {period_ms}\nround {round_ms}\n{}end\n", lines.concat())
+    }
+
+    /// The neighbours.
+    pub fn neighbours(&self) -> impl Iterator<Item = &Peer> {
+        self.peers.iter().filter(|peer| peer.number != self.node.number)
+    }
+
+    /// The name of an order.
+    pub fn name_of(&self, order: u32) -> Option<&str> {
+        self.orders.iter().find(|(_, &number)| u32::from(number) == order).map(|(name, _)| name.as_str())
+    }
+}
+
+impl File for WatchFile {
+    fn paths(&mut self) -> Vec<&mut PathBuf> {
+        let mut paths = paths_of(&mut self.system, &mut self.tls);
+        paths.extend([&mut self.watch.folder, &mut self.watch.database]);
+        paths.extend(&mut self.alarms.hook);
+        paths
+    }
+
+    fn wrong(&self) -> Option<String> {
+        let nodes = self.system.roots.len();
+        if !(2..=16).contains(&nodes) {
+            return Some("[system] roots: there is one file for each of 2 to 16 nodes".into());
+        }
+        self.clock.wrong()
+    }
+}
+
+/// Reads a configuration.
+pub fn read<T: File>(path: &Path) -> Result<T, End> {
+    let text = fs::read_to_string(path).map_err(End::file(path))?;
+    read_text(path, &text)
+}
+
+fn read_text<T: File>(path: &Path, text: &str) -> Result<T, End> {
+    let mut file: T = toml::from_str(text).map_err(|told| End::fault(path, told))?;
+    let folder = path.parent().unwrap_or(Path::new(""));
+    for it in file.paths() {
+        *it = folder.join(&*it);
+    }
+    match file.wrong() {
+        Some(what) => Err(End::fault(path, what)),
+        None => Ok(file),
+    }
+}
+
+#[cfg(test)]
+mod tests {
+    use super::*;
+
+    const FOUR: &str = include_str!("../../examples/four/node.toml");
+
+    fn four() -> String {
+        FOUR.replace("NODE", "2")
+    }
+
+    #[test]
+    fn the_example_is_a_configuration() {
+        let file: NodeFile = read_text(Path::new("/etc/four/2.toml"), &four()).expect("a configuration");
+        assert_eq!(file.node.state, Path::new("/etc/four/2/state"));
+        assert_eq!(file.neighbours().map(|peer| peer.number).collect::<Vec<_>>(), [0, 1, 3]);
+        assert_eq!(file.clock.start, 1_798_761_600_000);
+        let text = "start 1798761600000\nperiod 1000\nround 250\norder 0 hold\norder 1 close\norder 2 open\nend\n";
+        assert_eq!((file.context_text().as_str(), file.name_of(1), file.name_of(3)), (text, Some("close"), None));
+        let watch = include_str!("../../examples/four/watch.toml");
+        assert_eq!(read_text::<WatchFile>(Path::new("w.toml"), watch).expect("a configuration").clock, file.clock);
+    }
+
+    #[test]
+    fn what_is_wrong_is_refused() {
+        let wrong = [
+            ("number = 2", "number = 4"),
+            ("close = 1", "close = 3"),
+            ("close = 1", "close = 0"),
+            ("period_ms = 1000", "period_ms = 0"),
+            ("round_ms = 250", "round_ms = 9000"),
+            ("bound_ms = 20", "bound_ms = 63"),
+            ("source = \"kernel\"", "source = \"nobody\""),
+            ("start = 2027-01-01T00:00:00Z", "start = 2027-01-01"),
+            ("period_ms = 1000", "period_ms = 1000\nperiods = 3"),
+        ];
+        for (old, new) in wrong {
+            assert!(four().contains(old), "{old}");
+            let told = read_text::<NodeFile>(Path::new("2.toml"), &four().replacen(old, new, 1));
+            assert_eq!(told.expect_err(new).status, 3, "{new}");
+        }
+    }
+
+    #[test]
+    fn moments_are_numbers_or_texts() {
+        for moment in ["1798761600000", "\"2027-01-01T00:00:00Z\"", "2027-01-01T00:00:00.000Z"] {
+            let text = four().replace("2027-01-01T00:00:00Z", moment);
+            let file: NodeFile = read_text(Path::new("2.toml"), &text).expect(moment);
+            assert_eq!(file.clock.start, 1_798_761_600_000);
+        }
+    }
+}

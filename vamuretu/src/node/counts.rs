@@ -1,0 +1,112 @@
+//! What a node counts and measures.
+
+use prometheus::{Gauge, Histogram, HistogramOpts, IntCounter, IntCounterVec, IntGauge, IntGaugeVec, Opts, Registry};
+
+/// The metrics of a node. Each is there from the beginning, with 0.
+#[derive(Clone)]
+pub struct Counts {
+    pub registry: Registry,
+    pub begun: IntCounter,
+    pub decided: IntCounter,
+    pub late: IntCounter,
+    pub missed: IntCounter,
+    pub failed: IntCounter,
+    pub lost: IntCounter,
+    pub refused: IntCounterVec,
+    pub dropped: IntCounterVec,
+    pub connected: IntGaugeVec,
+    pub under_way: IntGauge,
+    pub newest: IntGauge,
+    pub sets_left: IntGauge,
+    pub synchronised: IntGauge,
+    pub may_begin: IntGauge,
+    pub offset: Gauge,
+    pub most_error: Gauge,
+    pub steps: IntGauge,
+    pub round: Histogram,
+    pub decision: Histogram,
+    pub spool_bytes: IntGauge,
+    pub spool_logs: IntGauge,
+    pub spool_waiting: IntGauge,
+    pub spool_refused: IntCounter,
+    pub spool_given_up: IntCounter,
+}
+
+/// Seconds from a sixty-fourth of a length to sixteen times it.
+fn buckets(round_ms: u32) -> Vec<f64> {
+    (0..11).map(|power| f64::from(round_ms) / 1000.0 / 64.0 * f64::from(1 << power)).collect()
+}
+
+/// Makes metrics of names, each of which a registry then has.
+struct Making(Registry);
+
+impl Making {
+    fn keep<T: prometheus::core::Collector + Clone + 'static>(&self, made: prometheus::Result<T>) -> T {
+        let made = made.expect("a name and a text that are right");
+        self.0.register(Box::new(made.clone())).expect("a name that is new");
+        made
+    }
+
+    fn counter(&self, name: &str, help: &str) -> IntCounter {
+        self.keep(IntCounter::new(format!("vamuretu_{name}"), help))
+    }
+
+    fn gauge(&self, name: &str, help: &str) -> IntGauge {
+        self.keep(IntGauge::new(format!("vamuretu_{name}"), help))
+    }
+
+    fn seconds(&self, name: &str, help: &str) -> Gauge {
+        self.keep(Gauge::new(format!("vamuretu_{name}_seconds"), help))
+    }
+
+    fn counters(&self, name: &str, help: &str, label: &str) -> IntCounterVec {
+        self.keep(IntCounterVec::new(Opts::new(format!("vamuretu_{name}"), help), &[label]))
+    }
+
+    fn gauges(&self, name: &str, help: &str, label: &str) -> IntGaugeVec {
+        self.keep(IntGaugeVec::new(Opts::new(format!("vamuretu_{name}"), help), &[label]))
+    }
+
+    fn histogram(&self, name: &str, help: &str, round_ms: u32) -> Histogram {
+        let options = HistogramOpts::new(format!("vamuretu_{name}_seconds"), help).buckets(buckets(round_ms));
+        self.keep(Histogram::with_opts(options))
+    }
+}
+
+impl Counts {
+    pub fn new(round_ms: u32) -> Counts {
+        let make = Making(Registry::new());
+        let counts = Counts {
+            begun: make.counter("runs_begun_total", "Runs in which this node began to sign."),
+            decided: make.counter("runs_decided_total", "Runs that this node ended with a decision."),
+            late: make.counter("runs_late_total", "Decided runs in which this node was late, and counts as faulty."),
+            missed: make.counter("runs_missed_total", "Runs that this node did not begin, since it was started."),
+            failed: make.counter("runs_failed_total", "Runs that this node began, and ended without a decision."),
+            lost: make.counter("frames_lost_total", "Frames that had not come when their round ended."),
+            refused: make.counters("frames_refused_total", "Frames that were refused, by their fault.", "fault"),
+            dropped: make.counters("frames_dropped_total", "Frames that a full queue dropped.", "peer"),
+            connected: make.gauges("connected", "1 while the neighbour is connected.", "peer"),
+            under_way: make.gauge("runs_under_way", "Runs that are under way."),
+            newest: make.gauge("newest_run", "The number of the newest run that was begun, or -1."),
+            sets_left: make.gauge("sets_left", "Sets of keys behind the newest run."),
+            synchronised: make.gauge("clock_synchronised", "1 if the kernel says that the clock is synchronised."),
+            may_begin: make.gauge("may_begin", "1 if the clock lets runs begin."),
+            offset: make.seconds("clock_offset", "What the kernel still has to correct."),
+            most_error: make.seconds("clock_most_error", "The kernel's bound of the error."),
+            steps: make.gauge("clock_steps", "How often the clock was set to another time."),
+            round: make.histogram("round", "From the beginning of a round by the clock to its end.", round_ms),
+            decision: make.histogram("decision", "From the beginning of a run by the clock to the decision.", round_ms),
+            spool_bytes: make.gauge("spool_bytes", "Bytes of the logs that are kept."),
+            spool_logs: make.gauge("spool_logs", "Logs that are kept."),
+            spool_waiting: make.gauge("spool_waiting", "Logs that no watcher has acknowledged, or not each."),
+            spool_refused: make.counter("spool_refused_total", "Logs that were not kept: no room, or a fault."),
+            spool_given_up: make.counter("spool_given_up_total", "Acknowledged logs that went before their time."),
+            registry: make.0,
+        };
+        for fault in 1..=8 {
+            counts.refused.with_label_values(&[&format!("F{fault}")]).inc_by(0);
+        }
+        counts.newest.set(-1);
+        counts
+    }
+}

@@ -1,0 +1,154 @@
+//! One page of HTML on a file or on an index, for people: who is convicted and what that is worth, what else was found, and
+//! how to check it. The proved library gives verdicts, their sentences and pictures; what stands here arranges them.
+
+mod line;
+mod of_file;
+mod of_index;
+mod page;
+mod worth;
+
+use std::collections::BTreeMap;
+use std::fs::File;
+use std::io::Read;
+use std::path::{Path, PathBuf};
+
+use crate::archive::id_of;
+use crate::archive::read::Range;
+use crate::config::Id;
+use crate::{disk, End};
+use page::Page;
+
+/// What a file of SQLite begins with.
+const DATABASE: &[u8] = b"SQLite format 3\0";
+
+/// What a page is written on.
+#[derive(clap::Args)]
+pub struct Report {
+    /// A bundle, a campaign, or an index
+    #[arg(value_name = "FILE")]
+    of: PathBuf,
+    /// The file of the page
+    #[arg(long, value_name = "FILE")]
+    out: PathBuf,
+    /// A TOML file with names of nodes, each in a line as 2 = "Pump house"
+    #[arg(long, value_name = "FILE")]
+    names: Option<PathBuf>,
+    /// The run id that is known from elsewhere, of a campaign all of them in their order
+    #[arg(long, value_name = "ID", value_parser = id_of, conflicts_with = "system")]
+    run: Vec<Id>,
+    /// The id of the system that the file is of
+    #[arg(long, value_name = "ID", value_parser = id_of, requires = "admissions")]
+    system: Option<Id>,
+    /// An admission, or a folder of them, each named R.admission for the number R of a run of its set
+    #[arg(long, value_name = "PATH", requires = "system")]
+    admissions: Vec<PathBuf>,
+    /// The folder that a watcher keeps, otherwise that of its index
+    #[arg(long)]
+    folder: Option<PathBuf>,
+    #[command(flatten)]
+    range: Range,
+}
+
+/// Names of nodes.
+#[derive(Default)]
+struct Names(BTreeMap<u32, String>);
+
+impl Names {
+    fn read(path: &Path) -> Result<Names, End> {
+        let text = std::fs::read_to_string(path).map_err(End::file(path))?;
+        let names: BTreeMap<String, String> = toml::from_str(&text).map_err(|told| End::fault(path, told))?;
+        let named = |(node, name): (String, String)| node.parse().map(|node| (node, name));
+        let names = names.into_iter().map(named).collect::<Result<_, _>>();
+        Ok(Names(names.map_err(|told| End::fault(path, told))?))
+    }
+
+    /// A node with its name, if it has one.
+    fn of(&self, word: &str, node: u32) -> String {
+        match self.0.get(&node) {
+            Some(name) => format!("{word} {node} ({name})"),
+            None => format!("{word} {node}"),
+        }
+    }
+}
+
+/// The program's own sentence on a name.
+fn sentence(name: &str) -> String {
+    let told = vamuretu::explain(name).ok().flatten().unwrap_or_default();
+    told.lines().skip(1).take_while(|line| line.starts_with(' ')).map(str::trim).collect::<Vec<_>>().join(" ")
+}
+
+/// A name as a shell takes it for itself.
+fn quoted(path: &Path) -> String {
+    format!("'{}'", path.to_string_lossy().replace('\'', "'\\''"))
+}
+
+/// The commands that make the evidence of a conviction in a run, out of a file with these runs, and check it.
+fn commands(general: u32, run: &str, runs: &[String], file: &Path) -> String {
+    let ids = runs.iter().map(|id| format!(" --run {id}")).collect::<String>();
+    let accuse = format!("sm_tool accuse --general {general}{ids}");
+    let made = match file.extension().is_some_and(|end| end == "zst") {
+        true => format!("zstd -dc --long=27 {} | {accuse}", quoted(file)),
+        false => format!("{accuse} {}", quoted(file)),
+    };
+    format!("{made} > evidence\nsm_tool evidence --run {run} evidence")
+}
+
+/// A text in the singular or the plural.
+fn counted(count: usize, one: &str, several: &str) -> String {
+    match count {
+        1 => format!("1 {one}"),
+        count => format!("{count} {several}"),
+    }
+}
+
+/// How the page is signed, and by which program it was made.
+fn close(page: &mut Page, out: &Path) {
+    let name = out.file_name().map_or_else(|| "report.html".into(), |it| it.to_string_lossy().into_owned());
+    let quoted = format!("'{}'", name.replace('\'', "'\\''"));
+    let is_plain = name.bytes().all(|it| it.is_ascii_alphanumeric() || b"._-".contains(&it)) && !name.starts_with('-');
+    let name = if is_plain { name } else { quoted };
+    page.head("To sign this page, and to show when it was there");
+    page.code(&worth::SIGNING.replace("NAME", &name));
+    page.text(&worth::STAMPING.replace("NAME", &name));
+    page.text("Others check it so:");
+    page.code(&worth::CHECKING.replace("NAME", &name));
+    page.text(&format!("Written by vamuretu {}.", env!("CARGO_PKG_VERSION")));
+}
+
+/// Writes a page.
+pub fn write(asked: &Report) -> Result<(), End> {
+    let names = asked.names.as_deref().map_or_else(|| Ok(Names::default()), Names::read)?;
+    let mut begins = vec![];
+    let file = File::open(&asked.of).map_err(End::file(&asked.of))?;
+    file.take(DATABASE.len() as u64).read_to_end(&mut begins).map_err(End::file(&asked.of))?;
+    let page = match begins == DATABASE {
+        true => of_index::page(asked, &names)?,
+        false => of_file::page(asked, &names)?,
+    };
+    disk::put(&asked.out, 0o644, page.html().as_bytes()).map_err(End::file(&asked.out))
+}
+
+#[cfg(test)]
+mod tests {
+    use super::*;
+
+    #[test]
+    fn names_for_a_shell() {
+        assert_eq!(quoted(Path::new("a'; rm -rf b")), "'a'\\''; rm -rf b'");
+        let runs = ["1".into(), "2".into()];
+        let wanted = "sm_tool accuse --general 3 --run 1 --run 2 'a b' > evidence\nsm_tool evidence --run 2 evidence";
+        assert_eq!(commands(3, "2", &runs, Path::new("a b")), wanted);
+        assert!(commands(3, "2", &runs, Path::new("a.zst")).starts_with("zstd -dc --long=27 'a.zst' | sm_tool accuse"));
+    }
+
+    #[test]
+    fn names_of_nodes() {
+        let path = std::env::temp_dir().join(format!("vamuretu-names-{}", std::process::id()));
+        std::fs::write(&path, "2 = \"Pump house\"\n").expect("a file");
+        let names = Names::read(&path).expect("names");
+        assert_eq!((names.of("node", 2), names.of("node", 3)), ("node 2 (Pump house)".into(), "node 3".into()));
+        std::fs::write(&path, "pump = \"2\"\n").expect("a file");
+        assert_eq!(Names::read(&path).err().map(|end| end.status), Some(3));
+        std::fs::remove_file(path).expect("a file");
+    }
+}

@@ -1,0 +1,151 @@
+//! The watcher: it collects the logs of each run from all nodes, judges them by the proved library, and keeps what it finds.
+//! It has no key, and trusts no node.
+
+mod alarms;
+mod collect;
+pub mod index;
+pub mod judge;
+mod keep;
+
+use std::fs::OpenOptions;
+use std::os::unix::io::AsRawFd;
+use std::path::Path;
+use std::sync::atomic::{AtomicBool, Ordering};
+use std::sync::mpsc::sync_channel;
+use std::sync::Arc;
+use std::thread;
+
+use nix::fcntl::{flock, FlockArg};
+use prometheus::{Histogram, HistogramOpts, IntCounter, IntCounterVec, IntGauge, Opts, Registry};
+use sd_notify::NotifyState;
+use tokio::net::TcpListener;
+use tokio::signal::unix::{signal, SignalKind};
+
+use crate::config::WatchFile;
+use crate::frames::Transport;
+use crate::systems::Systems;
+use crate::{clock, metrics, End};
+use collect::Door;
+use keep::{Keeper, Runs, Times};
+
+/// How many jobs, and how many alarms, wait at most.
+const MOST_JOBS: usize = 64;
+const MOST_ALARMS: usize = 16;
+
+/// What is counted.
+pub struct Counts {
+    pub logs: IntCounterVec,
+    pub refused: IntCounterVec,
+    pub runs: IntCounterVec,
+    pub convictions: IntCounter,
+    pub alarms: IntCounterVec,
+    pub failures: IntCounterVec,
+    pub bytes: IntCounterVec,
+    pub open: IntGauge,
+    pub next: IntGauge,
+    pub judging: Histogram,
+}
+
+impl Counts {
+    /// Makes the metrics, and has a registry tell them.
+    fn new(registry: &Registry) -> Result<Counts, prometheus::Error> {
+        let vector = |name: &str, help: &str, label: &str| {
+            let made = IntCounterVec::new(Opts::new(format!("vamuretu_watch_{name}"), help), &[label])?;
+            registry.register(Box::new(made.clone())).map(|()| made)
+        };
+        let gauge = |name: &str, help: &str| {
+            let made = IntGauge::new(format!("vamuretu_watch_{name}"), help)?;
+            registry.register(Box::new(made.clone())).map(|()| made)
+        };
+        let convictions = IntCounter::new("vamuretu_watch_convictions_total", "Convictions of runs that were judged")?;
+        registry.register(Box::new(convictions.clone()))?;
+        let judging = HistogramOpts::new("vamuretu_watch_judging_seconds", "Seconds to judge a run");
+        let judging = Histogram::with_opts(judging.buckets(vec![0.001, 0.003, 0.01, 0.03, 0.1, 0.3, 1.0, 3.0, 10.0]))?;
+        registry.register(Box::new(judging.clone()))?;
+        Ok(Counts {
+            logs: vector("logs_total", "Logs that were acknowledged", "kept")?,
+            refused: vector("refused_total", "Messages that were refused", "reason")?,
+            runs: vector("runs_total", "Runs that were judged", "verdict")?,
+            convictions,
+            alarms: vector("alarms_total", "Alarms that were raised", "kind")?,
+            failures: vector("failures_total", "What the disk did not take, and alarms whose program failed", "of")?,
+            bytes: vector("bytes_total", "Bytes of bundles, and those that were stored of them", "of")?,
+            open: gauge("open_runs", "Runs for which logs wait")?,
+            next: gauge("next_run", "The first run that was not judged")?,
+            judging,
+        })
+    }
+}
+
+/// Keeps others from the index as long as the program runs.
+pub fn lock(path: &Path) -> Result<std::fs::File, End> {
+    if let Some(folder) = path.parent().filter(|folder| !folder.as_os_str().is_empty()) {
+        keep::make_folder(folder).map_err(End::file(folder))?;
+    }
+    let name = path.with_extension("lock");
+    let file = OpenOptions::new().create(true).write(true).open(&name).map_err(End::file(&name))?;
+    match flock(file.as_raw_fd(), FlockArg::LockExclusiveNonblock) {
+        Ok(()) => Ok(file),
+        Err(told) => Err(End::failed(format!("{}: another program has it: {told}", name.display()))),
+    }
+}
+
+/// Writes what the index of a watcher has, as JSON.
+pub fn tell_status(file: &WatchFile) -> Result<(), End> {
+    let told = index::status(&file.watch.database).map_err(End::file(&file.watch.database))?;
+    println!("{told}");
+    Ok(())
+}
+
+/// Watches until it is told to end.
+pub fn run(file: &WatchFile) -> Result<(), End> {
+    let _lock = lock(&file.watch.database)?;
+    let registry = Registry::new();
+    let counts = Arc::new(Counts::new(&registry).map_err(End::failed)?);
+    let runs = Arc::new(Runs::new(Systems::open(&file.system)?));
+    let first = runs.get(0)?;
+    let longest = judge::longest_log(&first.header).map_err(End::failed)?;
+    let (started, rounds) = (clock::now_ms(), first.header.rounds() as u32);
+    let times = Times { clock: file.clock, rounds, deadline_ms: file.watch.deadline_ms, started, last_old: started };
+    let (jobs, asked) = sync_channel(MOST_JOBS);
+    let (to_tell, alarms) = sync_channel(MOST_ALARMS);
+    let opened = Keeper::open(file, runs.clone(), times, counts.clone(), to_tell);
+    let mut keeper = opened.map_err(|told| End::unusable(file.watch.database.display(), &told))?;
+    let stop = Arc::new(AtomicBool::new(false));
+    let (back, hook, failures, told) = (jobs.clone(), file.alarms.hook.clone(), counts.failures.clone(), stop.clone());
+    let teller = thread::spawn(move || alarms::tell(&alarms, &back, hook, &failures));
+    let worker = thread::spawn(move || keeper.work(&asked, &told));
+    let (id, transport) = (file.system.id, Transport::new(file.tls.as_ref())?);
+    let door = Door { id, runs, times, longest, counts, jobs, transport, alarmed: Default::default() };
+    let ended = serve(file, door, registry, &worker);
+    let _ = sd_notify::notify(false, &[NotifyState::Stopping]);
+    stop.store(true, Ordering::Relaxed);
+    let worked = worker.join().and_then(|()| teller.join());
+    ended.and(worked.map_err(|_| End::failed("a thread has failed")))
+}
+
+/// Takes connections until a signal comes.
+#[tokio::main(worker_threads = 2)]
+async fn serve(file: &WatchFile, door: Door, registry: Registry, worker: &thread::JoinHandle<()>) -> Result<(), End> {
+    let bound = |address, told| End::unusable(address, &told);
+    let listener = TcpListener::bind(file.watch.listen).await.map_err(|told| bound(file.watch.listen, told))?;
+    if let Some(of) = &file.metrics {
+        let asked = TcpListener::bind(of.address).await.map_err(|told| bound(of.address, told))?;
+        tokio::spawn(metrics::serve(asked, registry));
+    }
+    let failed = |told| End::unusable("signals", &told);
+    let mut ends = (signal(SignalKind::terminate()).map_err(failed)?, signal(SignalKind::interrupt()).map_err(failed)?);
+    tokio::spawn(collect::listen(listener, Arc::new(door)));
+    tracing::info!(listen = %file.watch.listen, library = vamuretu::version(), "watching");
+    let _ = sd_notify::notify(false, &[NotifyState::Ready]);
+    let mut look = tokio::time::interval(std::time::Duration::from_millis(200));
+    loop {
+        tokio::select! {
+            _ = ends.0.recv() => return Ok(()),
+            _ = ends.1.recv() => return Ok(()),
+            _ = look.tick() => if worker.is_finished() {
+                return Err(End::failed("the thread that keeps logs has ended"));
+            },
+        }
+    }
+}
