@@ -34,7 +34,7 @@ from complete import Numbered, write
 from node_calls import NO_ORDER, Node, bundle_of
 from nodes import Library
 from processes import try_with_library
-from programs import commands_of, run, side_by_side
+from programs import commands_of, count_cores, run, side_by_side
 from tally import Tally
 from walk import TOP, shown
 from watching import bomb, stored
@@ -65,8 +65,16 @@ TABLES = {
     "system": "SELECT * FROM system",
 }
 QUESTIONS = ("gaps", "convictions", "doubles", "unknown", "equal-roots", "changed", "verdicts", "faults")
-# No audit of these small files takes more, in KiB, and no bomb either.
-MOST_MEMORY = 400_000
+# What the program takes at most, in KiB: one window of 128 MiB at a time, as a bomb has it; for each of 64 cores 2 MiB of
+# another window, or of an audit of these small files; and itself. A process between the trial and the program tells what
+# was taken, since the kernel counts for a new process what the one that starts it has held.
+MOST_MEMORY = 320 << 10
+BOMBS = 8
+MEASURE = """import json, resource, subprocess, sys, time
+since = time.monotonic()
+status = subprocess.run(sys.argv[1:], stdout=subprocess.DEVNULL).returncode
+memory = resource.getrusage(resource.RUSAGE_CHILDREN).ru_maxrss
+print(json.dumps([status, memory, time.monotonic() - since]))"""
 
 
 class Wrong(Exception):
@@ -233,15 +241,21 @@ def try_spoilt(index, wanted):
     same("a bomb", faults[index.made.path("archive", "bomb.bundle.zst")], "it unpacks to more than 1073741824 bytes")
 
 
-def try_memory(index):
-    """What the program takes at most, with a bomb among its files. Tells its seconds."""
-    since = time.monotonic()
-    started = subprocess.Popen([index.program, *index.words], stdout=subprocess.DEVNULL)
-    _, status, used = os.wait4(started.pid, 0)
-    started.returncode = os.waitstatus_to_exitcode(status)
-    if used.ru_maxrss > MOST_MEMORY or started.returncode != 1:
-        raise Wrong(f"{used.ru_maxrss} KiB of memory, status {started.returncode}")
-    return time.monotonic() - since
+def try_memory(index, *more):
+    """What the program takes at most, with a bomb among its files, or with more beside it. Tells its seconds."""
+    told = run(sys.executable, ["-S", "-c", MEASURE, index.program, *index.words, *more]).wrote
+    status, memory, seconds = json.loads(told)
+    if memory > MOST_MEMORY or status != 1:
+        raise Wrong(f"{memory} KiB of memory, status {status}")
+    return seconds, memory
+
+
+def try_bombs(index, tally):
+    """Bombs that are unpacked by as many threads as there are cores take no more memory than one."""
+    for number in range(BOMBS):
+        write(index.made.path("bombs", f"{number}.bundle.zst"), bomb(80_000))
+    _, memory = try_memory(index, index.made.path("bombs"))
+    tally.note(f"{BOMBS} bombs took {memory} KiB on {count_cores()} cores")
 
 
 def try_kills(index, wanted, seconds, tally):
@@ -429,7 +443,8 @@ def try_all(program, made, other, tally, runs):
         wanted = spoil(made, other)
         try_spoilt(index, wanted)
         whole = Index(program, made, "whole")
-        seconds = try_memory(whole)
+        seconds, _ = try_memory(whole)
+        try_bombs(Index(program, made, "bombs"), tally)
         try_kills(killed, whole.tables(), seconds, tally)
         try_exports(index)
         try_sources(index)
