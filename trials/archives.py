@@ -17,7 +17,6 @@ import csv
 import hashlib
 import html.parser
 import io
-import itertools
 import json
 import os
 import re
@@ -30,8 +29,8 @@ import tempfile
 import time
 
 from cargo_built import build_program
-from complete import Numbered, write
-from node_calls import NO_ORDER, Node, bundle_of
+from complete import Numbered, drive, write
+from node_calls import NO_ORDER, bundle_of
 from nodes import Library
 from processes import try_with_library
 from programs import commands_of, count_cores, run, side_by_side
@@ -100,31 +99,15 @@ class Made(Numbered):
 
     def bundle_of(self, library, number):
         """The bundle of a run. In one the proposer has a twin, which tells the last node another order."""
-        place, is_liar = self.prepare(number), number == LIAR
-        header, *seeds = (self.read(place, it) for it in ("header", *(f"{general}.seed" for general in range(GENERALS))))
-        shutil.rmtree(place)
-        nodes = [Node(library) for _ in range(GENERALS + is_liar)]
+        is_liar, generals = number == LIAR, range(GENERALS)
+        orders = [NO_ORDER if general else 0 for general in generals]
+        nodes, header = self.begun(library, number, [*generals, *([0] if is_liar else [])], [*orders, 1])
         try:
-            for at, node in enumerate(nodes):
-                order = NO_ORDER if at % GENERALS else at // GENERALS
-                same("the fault of a node", node.begin(header, at % GENERALS, seeds[at % GENERALS], order), 0)
-            return bundle_of(library, header, int(is_liar), list(enumerate(self.drive(nodes))))
+            logs = drive(dict(zip(generals, nodes)), *([nodes[-1], [LAST]] if is_liar else []))
+            return bundle_of(library, header, int(is_liar), list(logs.items()))
         finally:
             for node in nodes:
                 node.__exit__()
-
-    def drive(self, nodes):
-        """The logs of nodes that hand on all frames in two rounds."""
-        for _ in range(2):
-            for node in nodes:
-                node.call("begin_round")
-            for sender, to in itertools.permutations(range(GENERALS), 2):
-                has_twin = len(nodes) > GENERALS and (sender, to) == (0, LAST)
-                frame = nodes[GENERALS if has_twin else sender].text("send", to)
-                same("the fault of a frame", nodes[to].hear(sender, frame), 0)
-            for node in nodes:
-                node.call("end_round")
-        return [node.end()[0] for node in nodes[:GENERALS]]
 
     def read(self, *names):
         with open(os.path.join(*names), "rb") as file:
