@@ -68,7 +68,7 @@ QUESTIONS = ("gaps", "convictions", "doubles", "unknown", "equal-roots", "change
 # another window, or of an audit of these small files; and itself. A process between the trial and the program tells what
 # was taken, since the kernel counts for a new process what the one that starts it has held.
 MOST_MEMORY = 320 << 10
-BOMBS = 8
+BOMBS = 4
 MEASURE = """import json, resource, subprocess, sys, time
 since = time.monotonic()
 status = subprocess.run(sys.argv[1:], stdout=subprocess.DEVNULL).returncode
