@@ -13,7 +13,9 @@ sys.path.insert(0, os.path.dirname(os.path.abspath(__file__)))
 
 from model.command import (LONGEST_INPUT, STANDARD, WRITE_BYTES, Answer, Job, Refused, Source, answer_job,  # noqa: E402
                            answer_words, called, failed, job_asked, not_read, refused_text)
+from model.faults import Fault  # noqa: E402
 from model.of_each import job_of, names_in, told_of_each  # noqa: E402
+from model.system import held_admission  # noqa: E402
 
 
 PIECE = 1 << 20
@@ -59,13 +61,18 @@ def answers_of(job: Job, standard: Callable[[], bytes]) -> Iterator[Answer]:
         return
     plain = replace(job, flags=())
     try:
-        listed = [name for source in job.listed for name in names_in(read_whole_input(plain, source, standard))]
         admission = [read_whole_input(plain, source, standard) for source in job.admission]
-    except Refused as refused:
-        yield refused_text(refused, [job.command])
-        return
+        for given in admission:
+            held_admission(given, job.system)
+        listed = [name for source in job.listed for name in names_in(read_whole_input(plain, source, standard))]
     except NoInput as without:
         yield without.args[0]
+        return
+    except Fault as fault:
+        yield failed(plain, 3, f"fault {fault.words}", "", b"")
+        return
+    except Refused as refused:
+        yield refused_text(refused, [job.command])
         return
     for name in (*job.files, *listed):
         alone = job_of(job, name)

@@ -29,7 +29,7 @@ from model.command import called
 from model.faults import Cursor
 from model.json_text import line_of
 from model.network import read_header
-from programs import End, commands_of, differs, run, shown
+from programs import End, commands_of, differs, fault, run, shown
 from reference import answer
 from scenarios import everybody, header_text, scenario, scenario_lines, signed, spell_lines
 from tally import Tally
@@ -129,8 +129,13 @@ class Folder:
     def __init__(self, program, place, tally):
         self.program, self.place, self.tally, self.known = program, place, tally, {}
         self.files = inputs_of(program)
-        written(place, self.files)
+        self.write(self.files)
         os.mkdir(os.path.join(place, "folder"))
+
+    def write(self, files):
+        """Writes files, on which answers that are known are none any more."""
+        written(self.place, files)
+        self.known.clear()
 
     def run(self, words, standard=b"", **how):
         """How the program ends."""
@@ -207,7 +212,7 @@ GOOD = {
 BAD = [b"empty", b"junk", b"cut", b"cut evidence", b"text", b"header text", b"frame", b"missing", b"folder", b"pair/x", b"", b"no", b"shared",
        b"fails", b"header", b"admission"]
 OPTIONS = {
-    "audit": [["--strict"], ["--workers", "3"], ["--faulty", "0"], ["--faulty=none", "--strict", "--json"], ["--faulty", "9"]],
+    "audit": [["--strict"], ["--workers", "3"], ["--faulty", "0"], ["--faulty=none", "--strict"], ["--faulty", "9"]],
     "show": [], "evidence": [],
 }
 
@@ -219,7 +224,6 @@ def try_files(folder, words):
         "several files": Call(words, good),
         "files with faults": Call(words, BAD),
         "good and bad files": Call(words, [*good[:1], *BAD[:3], *good[1:], *BAD[3:]]),
-        "one file alone": Call(words, good[:1] * 2),
         "a file three times": Call(words, good[:1] * 3),
         "a bad file twice": Call(words, [b"junk"] * 2),
         "standard input first": Call(words, [STANDARD, *good], standard=folder.files[good[0]]),
@@ -251,13 +255,13 @@ def try_names(folder, words):
     """Names that look like something else."""
     data = folder.files[GOOD[words[0]][0]]
     named = dict.fromkeys([*HOSTILE, b"-", MINUS], data)
-    written(folder.place, named)
+    folder.write(named)
     folder.hold("hostile names", Call(words, HOSTILE))
     folder.hold("hostile names, not there", Call(words, [name + b"?" for name in HOSTILE]))
-    written(folder.place, dict.fromkeys(named, b"junk"))
+    folder.write(dict.fromkeys(named, b"junk"))
     folder.hold("hostile names with faults", Call(words, HOSTILE))
     folder.hold("hostile names with faults in a list", Call(words, listed=[*HOSTILE, b"-"]))
-    written(folder.place, named)
+    folder.write(named)
 
 
 def try_options(folder, words):
@@ -291,12 +295,20 @@ def try_words(folder, words):
         is_well = end.status == 2 and not end.wrote and end.said.endswith(b"; for more, try '--help'\n")
         folder.tally.hold(f"{[*by, *wrong]}", None if is_well else f"{end}")
     if words[0] == "audit":
-        wanted = End(2, b"", b"error: --workers takes a number from 1 to 16, and not '0'; for more, try '--help'\n")
-        folder.tally.hold("workers", differs(folder.run([*by, "missing", "--workers", "0"]), wanted))
+        end = folder.run([*by, "missing", "--workers", "0"])
+        is_well = (end.status, end.wrote) == (2, b"") and end.said.startswith(b"error: --workers takes a number from 1 to 16")
+        folder.tally.hold("workers", None if is_well else f"{end}")
     lists = {"missing": not_opened("missing", "no such file"), "folder": not_read("is a folder", "folder"),
              "pair/x": not_opened("pair/x", "Not a directory (os error 20)"), "line\nfeed?": not_opened("line\\nfeed?", "no such file")}
     for name, wanted in lists.items():
         folder.ends("a list that cannot be read", [*by, name, good], wanted)
+        folder.ends("an admission that cannot be read", [*by, "missing", good, "--admission", name], wanted)
+    for given, wanted in {"junk": "fault A2", "empty": "fault A1", "pair": "fault A2"}.items():
+        folder.ends("an admission with a fault", [*by, "missing", good, "--admission", given], fault(wanted))
+        folder.ends("an admission with a fault", [*words, "--admission", given, good, good], fault(wanted))
+    other = ["--admission", "admission", "--system", "0" * 64]
+    folder.ends("an admission of another system", [*words, *other, good, "missing"], fault("fault A11"))
+    folder.ends("no name beside an admission", [*by, "empty", "--admission", "admission"], End(0, b"", b""))
     for other in ("decide", "run", "judge", "draw", "accuse", "receipts", "receipt", "plan", "words", "identity"):
         for wrong in ([other, "a", "b"], [other, "--files-from", listed]):
             end = folder.run([*wrong, *(["--general", "0"] if other in ("accuse", "receipt") else [])])
@@ -450,7 +462,7 @@ def try_sizes(folder):
     folder.tally.note(f"memory: {many} KiB for {MANY} bundles, {few} KiB for {FEW}")
 
 
-def trials(program, tally):
+def trials(program, tally, is_timed=True):
     if not set(COMMANDS) <= tally.commands or run(program, ["audit", "junk", "junk"]).status == 2:
         tally.note("left out: the program takes no several files")
         return
@@ -460,7 +472,8 @@ def trials(program, tally):
             for words in ([command], [command, "--json"]):
                 for trial in (try_names, try_files, try_lists, try_options, try_words, try_pipes, try_lost_output):
                     trial(folder, words)
-        try_sizes(folder)
+        if is_timed:
+            try_sizes(folder)
         ran = [at for at, _, names in os.walk(place) if "ran" in names]
         tally.hold("no name is run", f"{ran}" if ran else None)
 
@@ -471,7 +484,7 @@ def main():
     with tempfile.TemporaryDirectory() as place:
         program = reference_tool(place) if sys.argv[1] == "reference" else os.path.abspath(sys.argv[1])
         tally = Tally("many_files", commands_of(program))
-        trials(program, tally)
+        trials(program, tally, sys.argv[1] != "reference")
         tally.close()
     return 1 if tally.failed else 0
 
