@@ -27,7 +27,7 @@ from layout import MARK, Bundle, with_shared_root
 from model import bundle as model_bundle
 from model.command import called
 from model.faults import Cursor
-from model.json_text import line_of
+from model.json_text import TOOL, line_of
 from model.network import read_header
 from programs import End, commands_of, differs, fault, run, shown
 from reference import answer
@@ -197,7 +197,7 @@ def front_of(words, name):
     """What stands before the answer to a file."""
     if "--json" not in words:
         return b"file " + line_name(name) + b"\n"
-    value = {"format": "file", "name": None if name is STANDARD else name.decode(), "tool": "0.2.0", "version": 1}
+    value = {"format": "file", "name": None if name is STANDARD else name.decode(), "tool": TOOL, "version": 1}
     return line_of(value) if words[0] == "show" else b""
 
 
