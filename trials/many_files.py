@@ -23,6 +23,7 @@ from admitted import play
 from devices import BROKEN, FULL, not_opened, not_read, not_written
 from engines import reference_tool
 from identities import seed_of
+from json_texts import read_schema, wrong_lines
 from layout import MARK, Bundle, with_shared_root
 from model import bundle as model_bundle
 from model.command import called
@@ -127,7 +128,7 @@ class Folder:
     """A folder with files, in which a program runs and the reference answers."""
 
     def __init__(self, program, place, tally):
-        self.program, self.place, self.tally, self.known = program, place, tally, {}
+        self.program, self.place, self.tally, self.known, self.schema = program, place, tally, {}, read_schema()
         self.files = inputs_of(program)
         self.write(self.files)
         os.mkdir(os.path.join(place, "folder"))
@@ -180,6 +181,8 @@ class Folder:
         words = call.spelt()
         got = self.run(words, call.standard)
         wrong = differs(got, self.put_together(call)) or differs(got, self.by_reference(words, call.standard))
+        if "--json" in words:
+            wrong = wrong or wrong_lines(self.schema, got.wrote)
         self.tally.hold(f"{' '.join(call.words)}, {name}", wrong)
 
     def ends(self, name, words, wanted, standard=b""):
