@@ -388,14 +388,14 @@ def end_of(process):
 def try_pipes(folder, words):
     """The answer to a file is there before the next file is opened, and none is opened behind an answer that cannot be written."""
     first, last = GOOD[words[0]][0], GOOD[words[0]][-1]
-    head, behind = (folder.put_together(Call(words, [name])) for name in (first, last))
+    head, behind = folder.put_together(Call(words, [first])), folder.alone(words, last, b"")
     with pipe_in(folder) as path, started(folder, [*words, first, path]) as process:
         told = read_some(process.stdout, len(head.wrote))
         was_read = feed(path, process, folder.files[last])
         end = end_of(process)
-    wanted = End(max(head.status, behind.status), behind.wrote.replace(last, path.encode()), b"")
-    if words[-1] == "--json" and words[0] == "audit":
-        wanted = End(wanted.status, behind.wrote.replace(b'"name":"%s"' % last, b'"name":"%s"' % path.encode()), b"")
+    pipe = path.encode()
+    wrote = front_of(words, pipe) + behind.wrote.replace(b'"name":"%s"' % last, b'"name":"%s"' % pipe)
+    wanted = End(max(head.status, behind.status), wrote, behind.said)
     wrong = None if told == head.wrote and was_read else f"{told!r} before the pipe was opened, {was_read}"
     folder.tally.hold(f"{words}, an answer before the next file", wrong or (differs(end, wanted) if end else "it did not end"))
     with pipe_in(folder) as path, started(folder, [*words, first, path, path]) as process:
