@@ -293,7 +293,7 @@ def try_words(folder, words):
                   ["--admission=-", "--files-from=-"], ["--files-from", "-", good, "--", "-"], ["--admission", "-", "--files-from", "-", good]):
         folder.ends("a minus twice", [*words, *twice], TWICE)
     for wrong in ([listed, "--files-from", listed], [], ["--json=1", listed], [listed, "--run", "0"], ["-x"], [listed, "--general", "0"],
-                  ["--", listed, "--files-from"][:1], [listed, "--system", "0" * 64], [listed, "--run", "0" * 64, "--admission", "admission"]):
+                  ["--"], [listed, "--system", "0" * 64], [listed, "--run", "0" * 64, "--admission", "admission"]):
         end = folder.run([*by, *wrong])
         is_well = end.status == 2 and not end.wrote and end.said.endswith(b"; for more, try '--help'\n")
         folder.tally.hold(f"{[*by, *wrong]}", None if is_well else f"{end}")
