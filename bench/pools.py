@@ -1,5 +1,5 @@
 #!/usr/bin/env python3
-"""Measures how much memory a node takes where all others are faulty, and how large a pool (embed/nodes/pool.c) it needs.
+"""Measures how much memory a node takes where all others are faulty, and how large a pool (embed/pool.c) it needs.
 
     python3 bench/pools.py PROGRAM
 
@@ -38,7 +38,7 @@ class Pool:
     def __init__(self, size, folder):
         descriptor, made = tempfile.mkstemp(suffix=".so", dir=folder)
         os.close(descriptor)
-        heap = os.path.join(TOP, "embed", "nodes", "pool.c")
+        heap = os.path.join(TOP, "embed", "pool.c")
         whole = ["-Wl,--whole-archive", ARCHIVE, "-Wl,--no-whole-archive"]
         words = ["cc", "-std=c11", "-O2", "-fPIC", "-shared", f"-DSM_POOL_BYTES={size}", heap, *whole, "-o", made]
         subprocess.run(words, check=True)

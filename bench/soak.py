@@ -2,11 +2,12 @@
 """Soaks four nodes that go on and a watcher: the trial `soaking` (trials/soaking.py), whose head says what happens to them,
 for longer.
 
-    bench/soak.py TOOL PROGRAM [RUNS]
+    bench/soak.py TOOL PROGRAM [RUNS [PLACES]]
 
 TOOL is sm_tool and PROGRAM is vamuretu, both as they were built, with the archives of the libraries in out/ or where `rt
-lib` leaves them. RUNS is 2000 without a number, which take four minutes; 20000 take 40 minutes and 8 GB below /tmp. It
-prints what is wrong, and figures. The status is 1 where something is wrong.
+lib` leaves them. RUNS is 2000 without a number, which take four minutes; 20000 take 40 minutes and 8 GB below /tmp.
+PLACES is `wired`, or `cabled` for pairs of veth, which lose no packet. It prints what is wrong, and figures. The status
+is 1 where something is wrong.
 """
 import os
 import sys
@@ -19,10 +20,10 @@ RUNS = 2000
 
 
 def main():
-    if len(sys.argv) not in (3, 4):
+    if not 3 <= len(sys.argv) <= 5:
         sys.exit(__doc__)
     tool, program = map(os.path.abspath, sys.argv[1:3])
-    told, lacks = soaked(tool, program, int(sys.argv[3]) if sys.argv[3:] else RUNS)
+    told, lacks = soaked(tool, program, int(sys.argv[3]) if sys.argv[3:] else RUNS, *sys.argv[4:])
     for name, value in told["figures"].items():
         print(f"{name}: {value}")
     print(f"left out: namespaces, losses and a full disk: {lacks}" if lacks else "", end="\n" if lacks else "")

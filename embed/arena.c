@@ -3,7 +3,7 @@
 
    Blocks stand one behind another. The last block grows in its place. The room of a freed block comes back when all
    blocks behind it are freed. So the buffer is empty when no block is left. This fits a call that frees what it takes,
-   as sm_node_shown. It does not fit a node, which frees in another order: nodes/pool.c is for nodes.
+   as sm_node_shown. It does not fit a node, which frees in another order: pool.c is for nodes.
 
    SM_ARENA_BYTES is the size. Without it the buffer is enough for 16 receipts of any header. sm_arena_most tells the
    most bytes that were taken at one time. */

@@ -17,7 +17,6 @@ import csv
 import hashlib
 import html.parser
 import io
-import itertools
 import json
 import os
 import re
@@ -30,11 +29,11 @@ import tempfile
 import time
 
 from cargo_built import build_program
-from complete import Numbered, write
-from node_calls import NO_ORDER, Node, bundle_of
+from complete import Numbered, drive, write
+from node_calls import NO_ORDER, bundle_of
 from nodes import Library
 from processes import try_with_library
-from programs import commands_of, run, side_by_side
+from programs import commands_of, count_cores, run, side_by_side
 from tally import Tally
 from walk import TOP, shown
 from watching import bomb, stored
@@ -65,8 +64,16 @@ TABLES = {
     "system": "SELECT * FROM system",
 }
 QUESTIONS = ("gaps", "convictions", "doubles", "unknown", "equal-roots", "changed", "verdicts", "faults")
-# No audit of these small files takes more, in KiB, and no bomb either.
-MOST_MEMORY = 400_000
+# What the program takes at most, in KiB: one window of 128 MiB at a time, as a bomb has it; for each of 64 cores 2 MiB of
+# another window, or of an audit of these small files; and itself. A process between the trial and the program tells what
+# was taken, since the kernel counts for a new process what the one that starts it has held.
+MOST_MEMORY = 320 << 10
+BOMBS = 4
+MEASURE = """import json, resource, subprocess, sys, time
+since = time.monotonic()
+status = subprocess.run(sys.argv[1:], stdout=subprocess.DEVNULL).returncode
+memory = resource.getrusage(resource.RUSAGE_CHILDREN).ru_maxrss
+print(json.dumps([status, memory, time.monotonic() - since]))"""
 
 
 class Wrong(Exception):
@@ -92,31 +99,15 @@ class Made(Numbered):
 
     def bundle_of(self, library, number):
         """The bundle of a run. In one the proposer has a twin, which tells the last node another order."""
-        place, is_liar = self.prepare(number), number == LIAR
-        header, *seeds = (self.read(place, it) for it in ("header", *(f"{general}.seed" for general in range(GENERALS))))
-        shutil.rmtree(place)
-        nodes = [Node(library) for _ in range(GENERALS + is_liar)]
+        is_liar, generals = number == LIAR, range(GENERALS)
+        orders = [NO_ORDER if general else 0 for general in generals]
+        nodes, header = self.begun(library, number, [*generals, *([0] if is_liar else [])], [*orders, 1])
         try:
-            for at, node in enumerate(nodes):
-                order = NO_ORDER if at % GENERALS else at // GENERALS
-                same("the fault of a node", node.begin(header, at % GENERALS, seeds[at % GENERALS], order), 0)
-            return bundle_of(library, header, int(is_liar), list(enumerate(self.drive(nodes))))
+            logs = drive(dict(zip(generals, nodes)), *([nodes[-1], [LAST]] if is_liar else []))
+            return bundle_of(library, header, int(is_liar), list(logs.items()))
         finally:
             for node in nodes:
                 node.__exit__()
-
-    def drive(self, nodes):
-        """The logs of nodes that hand on all frames in two rounds."""
-        for _ in range(2):
-            for node in nodes:
-                node.call("begin_round")
-            for sender, to in itertools.permutations(range(GENERALS), 2):
-                has_twin = len(nodes) > GENERALS and (sender, to) == (0, LAST)
-                frame = nodes[GENERALS if has_twin else sender].text("send", to)
-                same("the fault of a frame", nodes[to].hear(sender, frame), 0)
-            for node in nodes:
-                node.call("end_round")
-        return [node.end()[0] for node in nodes[:GENERALS]]
 
     def read(self, *names):
         with open(os.path.join(*names), "rb") as file:
@@ -233,15 +224,21 @@ def try_spoilt(index, wanted):
     same("a bomb", faults[index.made.path("archive", "bomb.bundle.zst")], "it unpacks to more than 1073741824 bytes")
 
 
-def try_memory(index):
-    """What the program takes at most, with a bomb among its files. Tells its seconds."""
-    since = time.monotonic()
-    started = subprocess.Popen([index.program, *index.words], stdout=subprocess.DEVNULL)
-    _, status, used = os.wait4(started.pid, 0)
-    started.returncode = os.waitstatus_to_exitcode(status)
-    if used.ru_maxrss > MOST_MEMORY or started.returncode != 1:
-        raise Wrong(f"{used.ru_maxrss} KiB of memory, status {started.returncode}")
-    return time.monotonic() - since
+def try_memory(index, *more):
+    """What the program takes at most, with a bomb among its files, or with more beside it. Tells its seconds."""
+    told = run(sys.executable, ["-S", "-c", MEASURE, index.program, *index.words, *more]).wrote
+    status, memory, seconds = json.loads(told)
+    if memory > MOST_MEMORY or status != 1:
+        raise Wrong(f"{memory} KiB of memory, status {status}")
+    return seconds, memory
+
+
+def try_bombs(index, tally):
+    """Bombs that are unpacked by as many threads as there are cores take no more memory than one."""
+    for number in range(BOMBS):
+        write(index.made.path("bombs", f"{number}.bundle.zst"), bomb(80_000))
+    _, memory = try_memory(index, index.made.path("bombs"))
+    tally.note(f"{BOMBS} bombs took {memory} KiB on {count_cores()} cores")
 
 
 def try_kills(index, wanted, seconds, tally):
@@ -438,7 +435,8 @@ def try_all(program, made, other, tally, runs):
         wanted = spoil(made, other)
         try_spoilt(index, wanted)
         whole = Index(program, made, "whole")
-        seconds = try_memory(whole)
+        seconds, _ = try_memory(whole)
+        try_bombs(Index(program, made, "bombs"), tally)
         try_kills(killed, whole.tables(), seconds, tally)
         try_exports(index)
         try_sources(index)

@@ -18,7 +18,7 @@ from embed import ARCHIVE as JOBS, EMBED, TOP, WARNINGS, IsNotBuilt, do, first_w
 from keepers import PackageKeeper, StateKeeper, keeper_wrong
 from layout import Bundle
 from nodes import ARCHIVE as NODES
-from processes import OF_C
+from processes import OF_C, STATE
 from programs import End, by_library, run, side_by_side
 from refusals import EXAMPLES
 from scenarios import header_text, signed
@@ -142,10 +142,9 @@ def try_refusals(tally, folder):
 
 def build_second(folder):
     """The keeper in C, which takes the seeds of states that a package has kept."""
-    made = {name: [os.path.join(folder, f"{name}.built")] for name in ("state", "header")}
-    for name, (path,) in made.items():
-        do([*OF_C, source(f"nodes/{name}.c"), source("heap.c"), NODES, "-o", path])
-    return StateKeeper(made)
+    made = os.path.join(folder, "state.built")
+    do([*OF_C, STATE, source("heap.c"), NODES, "-o", made])
+    return StateKeeper({"state": [made]})
 
 
 def try_keeper(tally, folder, name, program, environ):
@@ -190,7 +189,7 @@ def try_rust(tally, folder, cases, wanted):
     tally.hold("Rust, its tests", tests_wrong(["cargo", "test", *OFFLINE], cwd=RUST, env=given))
     own = ["cargo", "test", *OFFLINE, "--features", "global-allocator"]
     tally.hold("Rust, its tests over Rust's heap", tests_wrong(own, cwd=RUST, env=given))
-    pool = {**given, "VAMURETU_HEAP": source("nodes/pool.c")}
+    pool = {**given, "VAMURETU_HEAP": source("pool.c")}
     tally.hold("Rust, its example over a pool", verdict_wrong(["cargo", "run", *OFFLINE, "--example", "agree"], cwd=RUST, env=pool))
     built = os.path.join(target, "debug", "examples")
     tally.hold("Rust, its example", verdict_wrong([os.path.join(built, "agree")]))

@@ -5,12 +5,13 @@
 
 tries this alone, with so many runs of a system whose identities have so many levels; it tells sizes and seconds.
 
-Four secrets become a system, its admissions and the headers of its runs by commands. In each run four processes of embed/nodes/
-take the seeds of its set, and now and then its proposer is out. Their logs become bundles by `bundle`. Then bundles and admissions
+Four secrets become a system, its admissions and the headers of its runs by commands. In each run four nodes of
+this process take the seeds of its set, and now and then its proposer is out. Their logs become bundles by `bundle`. Then bundles and admissions
 are taken out, exchanged, doubled and spoilt, in a copy of the archive. The archive of nodes is crates/sm_node/out/libsm_node.a;
 without it, or without a compiler, nothing is tried, and a line says so. The script reads the lines of one call over all files.
 """
 import hashlib
+import itertools
 import json
 import os
 import shutil
@@ -18,8 +19,9 @@ import sys
 import tempfile
 import time
 
-from embed import do
-from processes import ARCHIVE, LATE, MOST_TRIES, OF_C, PARTS, NODES, EMBED, System, TooBusy, Way, run_once, try_with_library
+from node_calls import NO_ORDER, Node
+from nodes import Library
+from processes import try_with_library
 from programs import commands_of, run, side_by_side
 from scenarios import everybody, scenario_lines, spell_lines
 from tally import Tally
@@ -48,10 +50,30 @@ def digest(text):
     return hashlib.sha256(text).digest()
 
 
+def read(path):
+    with open(path, "rb") as kept:
+        return kept.read()
+
+
 def write(path, data):
     os.makedirs(os.path.dirname(path), exist_ok=True)
     with open(path, "wb") as kept:
         kept.write(data)
+
+
+def drive(nodes, twin=None, deceived=()):
+    """The logs of nodes, by their numbers, that hand on all frames in two rounds. A twin of node 0 talks to those who are deceived."""
+    both = [*nodes.values(), *([twin] if twin else [])]
+    for _ in range(2):
+        for node in both:
+            node.call("begin_round")
+        for sender, to in itertools.permutations(nodes, 2):
+            frame = (twin if sender == 0 and to in deceived else nodes[sender]).text("send", to)
+            if nodes[to].hear(sender, frame) != 0:
+                raise AssertionError(f"a frame from {sender} to {to} is refused")
+        for node in both:
+            node.call("end_round")
+    return {general: node.end()[0] for general, node in nodes.items()}
 
 
 class Numbered:
@@ -106,25 +128,33 @@ class Numbered:
                 seed.write(digest(b"\x40" + state))
         return place
 
-    def run(self, made, number):
-        """A run of the processes, and its bundle. Of a run in which a process is late nothing is kept."""
-        out = number % OUT[1] == OUT[0]
-        system = System(GENERALS, 1, 2, {0: [str(number % 2)]}, {}, silent=(0,) if out else ())
-        for tried in range(MOST_TRIES):
-            place = self.prepare(number)
-            statuses, lines = run_once(made, Way(), [place] * GENERALS, system, Way.length << tried)
-            if LATE not in statuses:
-                break
-            shutil.rmtree(place)
-        else:
-            raise TooBusy
-        if any(statuses):
-            raise AssertionError(f"run {number}: {statuses}, {lines}")
-        logs = [f"{general}={os.path.join(place, f'{general}.log')}" for general in system.begun()]
-        words = ["bundle", *(["--faulty", "0"] if out else []), os.path.join(place, "header"), *logs]
-        write(self.bundle(number), (CAMPAIGN if is_alone(number) else b"") + self.do(words).wrote)
+    def begun(self, library, number, generals, orders):
+        """Nodes of a run that have begun, each with an order or none, in a list; and the header."""
+        place = self.prepare(number)
+        header, *seeds = (read(os.path.join(place, it)) for it in ("header", *(f"{general}.seed" for general in generals)))
         shutil.rmtree(place)
-        return tried
+        nodes = [Node(library) for _ in generals]
+        for node, general, seed, order in zip(nodes, generals, seeds, orders):
+            if node.begin(header, general, seed, order) != 0:
+                raise AssertionError(f"general {general} of run {number} does not begin")
+        return nodes, header
+
+    def run(self, library, number):
+        """A run of nodes, and its bundle."""
+        generals = range(number % OUT[1] == OUT[0], GENERALS)
+        orders = [number % 2 if general == 0 else NO_ORDER for general in generals]
+        nodes, header = self.begun(library, number, generals, orders)
+        logs, words = drive(dict(zip(generals, nodes))), []
+        for node in nodes:
+            node.__exit__()
+        for general, log in logs.items():
+            write(self.path(f"r{number}", f"{general}.log"), log)
+            words.append(f"{general}={self.path(f'r{number}', f'{general}.log')}")
+        write(self.path(f"r{number}", "header"), header)
+        listed = ["--faulty", "0"] if generals[0] else []
+        told = self.do(["bundle", *listed, self.path(f"r{number}", "header"), *words]).wrote
+        write(self.bundle(number), (CAMPAIGN if is_alone(number) else b"") + told)
+        shutil.rmtree(self.path(f"r{number}"))
 
     def bundle(self, number):
         """The file of the bundle of a run, or of a campaign of that run alone."""
@@ -235,31 +265,20 @@ def try_words(case, tally):
         tally.hold(f"words {words}", None if end.status == 2 else f"{end}")
 
 
-def build(folder):
-    """The program of a node."""
-    made = os.path.join(folder, "general")
-    parts = [os.path.join(NODES, f"{part}.c") for part in PARTS["general"]]
-    do([*OF_C, *parts, os.path.join(EMBED, "heap.c"), ARCHIVE, "-o", made])
-    return {"general": [made]}
-
-
-def make_archive(program, made, folder, levels, runs):
-    """A system with the bundles of its first runs, and how many runs were made anew since a process was late."""
+def make_archive(program, library, folder, levels, runs):
+    """A system with the bundles of its first runs."""
     system = Numbered(program, folder, levels)
     side_by_side(system.admit_set, range(-(-runs // RUNS_OF_SET)))
-    return system, sum(side_by_side(lambda number: system.run(made, number), range(runs)))
+    side_by_side(lambda number: system.run(library, number), range(runs))
+    return system
 
 
 def try_archive(program, folder, tally, runs=RUNS, levels=LEVELS):
     """The archive as it is, and each change of it."""
-    since, made = time.monotonic(), build(folder)
-    try:
-        system, again = make_archive(program, made, os.path.join(folder, "a"), levels, runs)
-        other, _ = make_archive(program, made, os.path.join(folder, "b"), 0, 1)
-    except TooBusy:
-        tally.note("left out: no run kept to the clock, since the machine is too busy")
-        return
-    tally.note(f"{runs} runs in {time.monotonic() - since:.0f} s, {again} times anew since a process was late")
+    since, library = time.monotonic(), Library(folder)
+    system = make_archive(program, library, os.path.join(folder, "a"), levels, runs)
+    other = make_archive(program, library, os.path.join(folder, "b"), 0, 1)
+    tally.note(f"{runs} runs in {time.monotonic() - since:.0f} s")
     for change in (None, take_out, double, spoil_admissions):
         with tempfile.TemporaryDirectory(dir="/tmp") as place:
             case, since = Case(system, place, runs), time.monotonic()

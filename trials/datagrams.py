@@ -1,4 +1,4 @@
-"""Generals as processes over UDP (embed/nodes/datagrams.c), by IPv4 and IPv6 of this machine, through a relay that loses.
+"""Generals as processes over UDP (embed/node.c), by IPv4 and IPv6 of this machine, through a relay that loses.
 
 Each general has a folder of its own, as on a machine of its own, and its addresses are those of the relay. Of each piece of a
 frame the relay loses up to two of four sendings, and doubles, delays and so reorders the others. One clock is ahead, and one
@@ -19,20 +19,20 @@ import threading
 import time
 from typing import NamedTuple
 
-from processes import FOUR, SIXTEEN, System, TooBusy, Way, build_programs, made_bundle, make_header, run_id_of
-from processes import run_in_time, sanitized, try_system, try_with_library
+from processes import FOUR, SIXTEEN, TWIN, System, TooBusy, Way, build_programs, made_bundle, make_header, run_id_of
+from processes import run_in_time, try_system, try_with_library, with_node, write_seeds
 from programs import run
 from scenarios import everybody
 
 LOOPBACK = {socket.AF_INET: "127.0.0.1", socket.AF_INET6: "::1"}
 SEED = b"datagrams"
-# By docs/NODES.md and datagrams.c: what stands before a piece, the most bytes of a datagram, and how often a piece is sent.
+# By node.c: what stands before a piece, the most bytes of a datagram, and how often a piece is sent.
 FRONT, MOST, SENDINGS = 47, 1232, 4
 PIECE = MOST - FRONT
 MARK = b"SMD1"
 # One loyal commander, and a general that never begins.
-SILENT = System(4, 1, 2, {0: ["1"]}, {3: []}, silent=(3,))
-ALL = System(4, 1, 2, {0: ["1"]}, {})
+SILENT = System(4, 1, 2, "1", {3: []}, silent=(3,))
+ALL = System(4, 1, 2, "1", {})
 
 
 class Cut(NamedTuple):
@@ -108,14 +108,11 @@ def bent(data, chance):
 class Direct(Way):
     """UDP from process to process, in one folder."""
 
-    ending, clock, length, before = "_udp", time.CLOCK_REALTIME, 1000, 400
-
-    def __init__(self, families):
-        self.families = families
+    def __init__(self, family):
+        self.family = family
 
     def open(self, folder, system, length):
-        generals = [general for general in range(system.generals) for _ in self.families]
-        write_places(folder, zip(generals, free_addresses(self.families * system.generals)))
+        write_places(folder, enumerate(free_addresses([self.family] * system.generals)))
         return [folder] * system.generals
 
 
@@ -126,39 +123,36 @@ def write_places(folder, places):
 
 
 class Relay(Way):
-    """UDP through a relay: each general has a folder of its own, and a socket of the relay in the place of each neighbour.
+    """UDP of one family through a relay: each process has a folder of its own, and a socket of the relay in the place of each
+    neighbour. `is_cut` tells which links carry nothing."""
 
-    `families` has the families of each general's addresses; `is_cut` tells which links carry nothing."""
+    length = 1500
 
-    ending, clock, length, before = "_udp", time.CLOCK_REALTIME, 1500, 400
-
-    def __init__(self, families, is_cut=lambda sender, receiver: False):
-        self.families, self.is_cut = families, is_cut
+    def __init__(self, family, is_cut=lambda sender, receiver: False):
+        self.family, self.is_cut = family, is_cut
 
     def open(self, folder, system, length):
         self.system, self.run_id = system, run_id_of(folder)
         self.longest_wait, self.longest_step, self.is_late = length / 20_000, length / 25_000, False
-        self.own = [dict(zip(it, free_addresses(it))) for it in self.families]
-        self.doors, self.waiting, self.times = {}, [], {}
-        for a, b in everybody(system.generals):
-            both = set(self.families[a]) & set(self.families[b])
-            family = max(both, key=lambda it: it == socket.AF_INET6)
-            self.doors |= {(a, b): bound(family), (b, a): bound(family)}
-        self.strays = {family: bound(family) for family in LOOPBACK}
-        folders = [self.folder_of(folder, general) for general in range(system.generals)]
+        places = [*range(system.generals), TWIN]
+        self.own = dict(zip(places, free_addresses([self.family] * len(places))))
+        ways = [way for edge in everybody(system.generals) for way in (edge, edge[::-1])]
+        self.doors, self.waiting, self.times = {way: bound(self.family) for way in ways}, [], {}
+        self.stray = bound(self.family)
+        folders = {place: self.folder_of(folder, place) for place in places}
         self.ends = threading.Event()
         self.thread = threading.Thread(target=self.carry)
         self.thread.start()
         return folders
 
-    def folder_of(self, folder, general):
-        """The folder of a general, with the header, its own seed alone, and the addresses."""
-        made = os.path.join(folder, f"of{general}")
+    def folder_of(self, folder, place):
+        """The folder of a process, with the header, the seed of its general alone, and the addresses."""
+        made, general = os.path.join(folder, f"of{place}"), place % TWIN
         os.mkdir(made)
         for name in ("header", f"{general}.seed"):
             shutil.copy(os.path.join(folder, name), made)
-        places = [(general, at) for at in self.own[general].values()]
-        write_places(made, places + [(b, door.getsockname()) for (a, b), door in self.doors.items() if a == general])
+        others = [(b, door.getsockname()) for (a, b), door in self.doors.items() if a == general]
+        write_places(made, [(general, self.own[place]), *others])
         return made
 
     def ahead(self, general):
@@ -191,7 +185,8 @@ class Relay(Way):
                 data, at = door.recvfrom(1 << 16)
             except BlockingIOError:
                 return
-            if at[:2] in [own[:2] for own in self.own[sender].values()] and not self.is_cut(sender, receiver):
+            own = self.own[self.system.place(sender, receiver)]
+            if at[:2] == own[:2] and not self.is_cut(sender, receiver):
                 self.draw(data, sender, receiver)
 
     def draw(self, data, sender, receiver):
@@ -230,55 +225,79 @@ class Relay(Way):
         due = [it for it in self.waiting if it[0] <= now]
         self.waiting = [it for it in self.waiting if it[0] > now]
         for _, data, sender, receiver in sorted(due, key=lambda it: it[0]):
-            family = self.families[receiver][0] if sender is None else self.doors[receiver, sender].family
-            door = self.strays[family] if sender is None else self.doors[receiver, sender]
+            door = self.stray if sender is None else self.doors[receiver, sender]
             try:
-                door.sendto(data, self.own[receiver][family])
+                door.sendto(data, self.own[self.system.place(receiver, sender)])
             except OSError:
                 continue
 
     def close(self):
         self.ends.set()
         self.thread.join()
-        for made in [*self.doors.values(), *self.strays.values()]:
+        for made in [*self.doors.values(), self.stray]:
             made.close()
 
 
 def cut_wrong(program, made, folder, cut):
     """None where the audit finds the messages of the links that are cut and nothing else, and agrees with each of the lists."""
-    way = Relay([(socket.AF_INET,)] * 4, lambda sender, receiver: {sender, receiver} in cut.links)
-    of_run, statuses, lines = run_in_time(made, way, folder, ALL)
+    way = Relay(socket.AF_INET, lambda sender, receiver: {sender, receiver} in cut.links)
+    of_run, statuses, lines = run_in_time(program, made, way, folder, ALL)
     heard = [sorted({line for line in said.splitlines() if line.startswith("heard")}) for said in lines]
     if any(statuses) or heard != [[line] for line in cut.heard]:
         return f"the processes ended with {statuses}: {lines}"
-    verdict = run(program, ["audit"], made_bundle(made, of_run, 0, range(4)))
+    verdict = run(program, ["audit"], made_bundle(program, of_run, [], range(4)))
     found = [line for line in verdict.wrote.decode().splitlines() if line.startswith("N")]
     if verdict.status != 1 or found != cut.found or b"convicted" in verdict.wrote:
         return f"the verdict is {verdict}"
     for listed in cut.lists:
         generals = [general for general in range(4) if general != listed]
-        verdict = run(program, ["audit"], made_bundle(made, of_run, 1 << listed, generals))
+        verdict = run(program, ["audit"], made_bundle(program, of_run, [listed], generals))
         if verdict.status or b"verdict agreed 1\n" not in verdict.wrote:
             return f"with {listed} the verdict is {verdict}"
     return None
 
 
-def words_wrong(made, folder):
-    """None where wrong files of addresses are refused, with a word about the line, and no log is left."""
+def is_refused(made, status, *words):
+    """Whether a node ends with a status, says why, and leaves no log."""
+    program, *first = made["node"]
+    end = run(program, [*first, *words])
+    right = end.status == status and not end.wrote and end.said and b"Success" not in end.said
+    return right and not (words and os.path.exists(os.path.join(words[0], "0.log")))
+
+
+def words_wrong(program, made, folder):
+    """None where wrong words, files of addresses and seeds are refused, and so is a node that has a log."""
+    of_words, of_seeds = os.path.join(folder, "words"), os.path.join(folder, "seeds")
+    for name in (of_words, of_seeds):
+        os.mkdir(name)
+    make_header(program, of_words, FOUR)
+    write_seeds(of_seeds, 1, 0o640)
+    shutil.copy(os.path.join(of_words, "header"), of_seeds)
+    for name in (of_words, of_seeds):
+        write_places(name, enumerate(free_addresses([socket.AF_INET] * 4)))
+    with open(os.path.join(of_words, "1.log"), "wb"):
+        pass
+    words = [(1, of_seeds, "0", "9", "1"), (1, of_words, "1", "9"), (1, of_words, "16", "9"), (1, of_words, "0", "9")]
+    words += [(1, of_words, "0", "9", bad) for bad in ("", "x", "3", "256", "-1", "+1")]
+    words += [(1, of_words, "0", bad, "1") for bad in ("", "1000001")]
+    words += [(1, of_words + "x" * 199, "0", "9", "1"), (2, of_words, "0"), (2, of_words, "0", "9", "1", "2"), (2,)]
+    wrong = [it for it in words if not is_refused(made, *it)]
     cases = ["", "0 127.0.0.1\n", "0 localhost 4000\n", "x 127.0.0.1 4000\n", "16 127.0.0.1 4000\n", "0 127.0.0.1 4000"]
     cases += ["0 127.0.0.1 4000 x\n", "0 127.0.0.1 4000\n0 127.0.0.2 4000\n", "0 127.0.0.1 4000\n1 127.0.0.1 4000\n"]
     cases += ["0 127.0.0.1 65536\n", "0 127.0.0.1 4000\n1 ::1 4000\n", f"0 {'1' * 130} 4000\n"]
     cases += ["0 192.0.2.1 4000\n1 192.0.2.2 4000\n2 192.0.2.3 4000\n3 192.0.2.4 4000\n"]
-    for at, text in enumerate(cases):
-        of_case = os.path.join(folder, f"w{at}")
-        shutil.copytree(os.path.join(folder, "words"), of_case)
-        with open(os.path.join(of_case, "addresses"), "w", encoding="ascii") as kept:
+    for text in cases:
+        with open(os.path.join(of_words, "addresses"), "w", encoding="ascii") as kept:
             kept.write(text)
-        program, *words = made["general_udp"]
-        end = run(program, [*words, of_case, "0", "9", "1"])
-        if end.status != 1 or end.wrote or not end.said or os.path.exists(os.path.join(of_case, "0.log")):
-            return f"{text!r}: {end}"
-    return None
+        wrong += [] if is_refused(made, 1, of_words, "0", "9", "1") else [text]
+    return f"{wrong}" if wrong else None
+
+
+def pool_wrong(made, folder):
+    """None where a node whose pool is too small says that memory is refused, and has signed nothing."""
+    program, *words = made["node, small pool"]
+    end = run(program, [*words, os.path.join(folder, "words"), "0", "9", "1"])
+    return None if (end.status, end.wrote) == (1, b"") and b"memory" in end.said else f"{end}"
 
 
 def try_built(program, tally, folder):
@@ -286,23 +305,21 @@ def try_built(program, tally, folder):
     made, runs = build_programs(folder), os.path.join(folder, "r")
     os.mkdir(runs)
     v4, v6 = socket.AF_INET, socket.AF_INET6
-    mixed = [(v4, v6), (v4,), (v6, v4), (v4,)]
-    for name, families in (("IPv4", [(v4,)] * 4), ("IPv6", [(v6,)] * 4), ("both", mixed)):
-        try_system(tally, f"four processes, {name}", program, made, Relay(families), runs, FOUR)
-    try_system(tally, "four processes, sanitized", program, sanitized(made), Relay(mixed), runs, FOUR)
-    try_system(tally, "rubbish, sanitized", program, sanitized(made), Relay(mixed), runs, SILENT)
-    try_system(tally, "slot 2", program, made, Relay(mixed), runs, FOUR._replace(slot=2))
-    for name, families in (("IPv4", (v4,)), ("IPv6", (v6,))):
-        try_system(tally, f"sixteen processes, {name}", program, made, Direct(families), runs, SIXTEEN)
+    for name, family in (("IPv4", v4), ("IPv6", v6)):
+        try_system(tally, f"four processes, {name}", program, made, Relay(family), runs, FOUR)
+        try_system(tally, f"sixteen processes, {name}", program, made, Direct(family), runs, SIXTEEN)
+    for name in ("node, sanitized", "node, pool"):
+        try_system(tally, f"four processes, {name}", program, with_node(made, name), Relay(v6), runs, FOUR)
+    try_system(tally, "rubbish, sanitized", program, with_node(made, "node, sanitized"), Relay(v6), runs, SILENT)
+    try_system(tally, "slot 2", program, made, Relay(v4), runs, FOUR._replace(slot=2))
     for name, cut in (("all links of one are cut", OF_ONE), ("a link is cut", LINK)):
         try:
             tally.hold(name, cut_wrong(program, made, runs, cut))
         except TooBusy:
             tally.note(f"left out: {name}, since no run kept to the clock")
-    os.mkdir(os.path.join(folder, "words"))
-    make_header(made, os.path.join(folder, "words"), FOUR)
-    tally.hold("wrong addresses", words_wrong(made, folder))
-    tally.count(30)
+    tally.hold("wrong words and addresses", words_wrong(program, made, folder))
+    tally.hold("a pool that is too small", pool_wrong(made, folder))
+    tally.count(45)
 
 
 def has_families():

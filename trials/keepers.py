@@ -1,4 +1,4 @@
-"""Programs that keep a node's state (embed/nodes/state.h and the packages), killed at each point, and the power that fails there.
+"""Programs that keep a node's state (state.c and the packages), killed at each point, and the power that fails there.
 
 State, mark and seeds stand in three folders. A program is killed (dying.c) before, within and behind each call that makes a state, or that
 takes the seed of a set. Then the disk is one of those of disks.py. On each, the seed of the set is refused if the program had begun
@@ -9,7 +9,6 @@ import os
 import signal
 
 from disks import DISKS, copied, fail_power, killed
-from embed import do
 from programs import run, side_by_side
 from model.identity import NumberedState, set_seed, state_after
 
@@ -53,7 +52,7 @@ class Keeper:
 
 
 class StateKeeper(Keeper):
-    """The program state.c, which writes seeds to files, beside header.c, which tells their roots."""
+    """The program state.c, which writes seeds to files, and prints the roots of their keys."""
 
     handing = ["open", "1.seed"]
 
@@ -67,9 +66,7 @@ class StateKeeper(Keeper):
         return [*self.words_of("take", folder), str(number), os.path.join(folder, "run"), str(place)]
 
     def taken(self, folder, place, wrote):
-        """The root of the keys of the seed that was written, which `header root` tells."""
-        return do([*self.made["header"], "root", os.path.join(folder, "run"), str(place), "2"]).strip()
-
+        return wrote.decode().strip()
 
     def seed(self, folder, place):
         """The seed that was written for a place."""

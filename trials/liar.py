@@ -4,7 +4,7 @@
     trials/liar.py < PLAN
 
 takes the place of the node with the greatest number, which connects to all others. PLAN is an object of JSON, whose members
-are those of Plan. As embed/nodes/traitor.c it has two nodes of one seed in each run, which follow the algorithm, with
+are those of Plan. It has two nodes of one seed in each run, which follow the algorithm, with
 another order each where they have one. It hands out no log. The last line has the numbers of the runs in which it told both
 orders. The package of embed/python is used, whose libraries VAMURETU_LIBRARIES names.
 """

@@ -1,26 +1,21 @@
-"""The library of nodes for C (embed/sm_node.h), as processes over sockets (embed/nodes/) and call by call.
+"""The library of nodes for C (embed/sm_node.h), call by call.
 
 The archive is crates/sm_node/out/libsm_node.a, which `rt lib` builds in crates/sm_node; without it, or without a
-compiler, nothing is tried, and a line says so. Of four processes one is a commander who tells two orders, by two nodes of
-one seed, and one is killed in the second round; of sixteen all are loyal. Before they begin, each gets datagrams that are
-of no general. The logs of the others, and the bundle that is made of them, are those of the scenario whose scripts say
-what these two do, byte for byte. The calls are made by ctypes, over a heap that refuses (refusing_heap.c), in a thread with
-little stack.
+compiler, nothing is tried, and a line says so. The calls are made by ctypes, over a heap that refuses (refusing_heap.c), in a
+thread with little stack. The bundle that two nodes make is that of the scenario. Besides, a program in C keeps a state (state.c),
+and programs call both libraries. datagrams.py has nodes as processes.
 """
 import concurrent.futures
 import ctypes
 import hashlib
 import os
-import shutil
-import socket
 import struct
 import threading
 
 from embed import ARCHIVE as JOBS, EMBED, SANITIZERS, STACK, TOP, WARNINGS, do
 from keepers import StateKeeper, seeds_wrong
 from layout import Bundle
-from processes import ARCHIVE, FOUR, OF_C, PARTS, SIXTEEN, Way, build_programs, make_header, run_id_of, sanitized, seed_of
-from processes import try_system, try_with_library, write_seeds
+from processes import ARCHIVE, FOUR, OF_C, build_programs, seed_of, try_with_library
 from programs import run, side_by_side
 from scenarios import chain, scenario
 
@@ -50,31 +45,7 @@ int main(void) {
 """
 
 
-# ---- processes
-
-
-class Sockets(Way):
-    """Unix sockets in one folder."""
-
-    def open(self, folder, system, length):
-        self.folder, self.system = folder, system
-        return super().open(folder, system, length)
-
-    def disturb(self):
-        """Sends each general datagrams of no general: one of no socket, and an empty frame of another folder's commander."""
-        elsewhere, run_id = os.path.join(self.folder, "x"), run_id_of(self.folder)
-        os.mkdir(elsewhere)
-        nobody, other = (socket.socket(socket.AF_UNIX, socket.SOCK_DGRAM) for _ in range(2))
-        with nobody, other:
-            other.bind(os.path.join(elsewhere, "0"))
-            for general in range(self.system.generals):
-                his = os.path.join(self.folder, str(general))
-                nobody.sendto(bytes(1000), his)
-                other.sendto(b"SMF1" + run_id + bytes([1, 0, general, 0, 0]), his)
-
-    def wrong(self):
-        left = [it for it in self.system.ended() if os.path.exists(os.path.join(self.folder, str(it)))]
-        return f"the sockets of {left} are left" if left else None
+# ---- programs
 
 
 def ends_with(status, words):
@@ -85,58 +56,14 @@ def ends_with(status, words):
 
 
 def words_wrong(made, folder):
-    """None where the programs refuse wrong words, a seed that others may read, and to begin a second time."""
-    of_words, of_seeds = os.path.join(folder, "w"), os.path.join(folder, "s")
-    for name in (of_words, of_seeds):
-        os.mkdir(name)
-    make_header(made, of_words, FOUR)
-    write_seeds(of_seeds, 1, 0o640)
-    shutil.copy(os.path.join(of_words, "header"), of_seeds)
-    open(os.path.join(of_words, "1.log"), "wb").close()
-    root, edge = "00" * 32, "0-1"
-    header = ["1", "0", "2", "0", "1", "2", "0"]
-    many = ",".join([edge] * 121)
-    makes = [(header, text, [root] * 2) for text in ("", "0", "0-", "0-1,", "0-1;", "0-256", "-1-0", many)]
-    makes += [(header[:2] + [bad] + header[3:], edge, [root] * 2) for bad in ("x", "", "-1", "+2", "2 ", "258", "1")]
-    makes += [(header, edge, [root, bad]) for bad in (root, "", root[1:], root + "0", "g" + root[1:])]
-    wrong = [(1, [*made["header"], "make", of_words, *of, edges, *roots]) for of, edges, roots in makes]
-    wrong += [(1, [*made["header"], "root", *words]) for words in ((of_seeds, "0", "1"), (of_words, "0", "3"))]
-    generals = [(of_seeds, "0", "9", "1"), (of_words, "1", "9"), (of_words, "16", "9"), (of_words, "0", "9")]
-    generals += [(of_words + "x" * 99, "0", "9", "1")]
-    traitors = [(of_words, "0", "9", "1", "2", bad) for bad in ("", "1,", "16", "1 2")]
-    for ending in ("", "_udp"):
-        wrong += [(1, [*made[f"general{ending}"], *words]) for words in generals]
-        wrong += [(1, [*made[f"traitor{ending}"], *words]) for words in traitors]
-        wrong += [(2, [*made[f"general{ending}"], *traitors[0]]), (2, [*made[f"traitor{ending}"], *generals[0]])]
-    bundles = [("65536",), ("0", "16"), ("0", "2"), ("x",), ("0", "1", "0")]
-    wrong += [(1, [*made["bundle"], of_words, *words]) for words in bundles]
-    states = [("16", of_words, "0" * 64), ("0", of_words, "0" * 63), ("0", of_words, "0" * 65), ("0", of_words, "A" * 64)]
-    wrong += [(1, [*made["state"], "catch-up", of_words, *words]) for words in [*states, ("0", of_words, "0" * 64)]]
-    wrong += [(2, [*made["state"], "put", of_words, *states[0]]), (2, [*made["state"], "take", of_words, *states[0]])]
-    wrong += [(2, made[name]) for name in PARTS]
+    """None where the program that keeps states refuses wrong words."""
+    place = os.path.join(folder, "w")
+    os.mkdir(place)
+    states = [("16", place, "0" * 64), ("0", place, "0" * 63), ("0", place, "0" * 65), ("0", place, "A" * 64)]
+    wrong = [(1, [*made["state"], "catch-up", place, *words]) for words in [*states, ("0", place, "0" * 64)]]
+    wrong += [(2, [*made["state"], "put", place, *states[0]]), (2, [*made["state"], "take", place, *states[0]])]
+    wrong += [(2, made["state"])]
     return "; ".join(filter(None, side_by_side(lambda of: ends_with(*of), wrong))) or None
-
-
-def keygen_wrong(made, folder):
-    """None where each seed is 32 other bytes that its owner alone may read, and none is written over."""
-    of_keys = os.path.join(folder, "k")
-    os.mkdir(of_keys)
-    ends = [run(made["keygen"][0], [*made["keygen"][1:], of_keys, general]) for general in ("0", "1", "0", "16")]
-    paths = [os.path.join(of_keys, f"{general}.seed") for general in range(2)]
-    if [end.status for end in ends] != [0, 0, 1, 1] or sorted(os.listdir(of_keys)) != ["0.seed", "1.seed"]:
-        return f"{ends}"
-    seeds = [open(path, "rb").read() for path in paths]
-    modes = [os.stat(path).st_mode & 0o777 for path in paths]
-    return None if len(set(seeds)) == 2 and [len(it) for it in seeds] == [32] * 2 and modes == [0o600] * 2 else f"{modes}"
-
-
-def pool_wrong(made, folder):
-    """None where a general whose pool is too small says that memory is refused, and has signed nothing."""
-    of_pool = os.path.join(folder, "p")
-    os.mkdir(of_pool)
-    make_header(made, of_pool, FOUR)
-    end = run(made["general, small pool"][0], [*made["general, small pool"][1:], of_pool, "1", "9"])
-    return None if (end.status, end.wrote) == (1, b"") and b"says 4" in end.said else f"{end}"
 
 
 def both_wrong(program, folder):
@@ -649,17 +576,8 @@ def with_little_stack(call, *words):
 def try_built(program, tally, folder):
     """All trials over the archive."""
     made, library = build_programs(folder), Library(folder)
-    runs, way = os.path.join(folder, "r"), Sockets()
-    os.mkdir(runs)
-    try_system(tally, "four processes", program, made, way, runs, FOUR)
-    try_system(tally, "four processes, sanitized", program, sanitized(made), way, runs, FOUR)
-    try_system(tally, "four processes, slot 2", program, made, way, runs, FOUR._replace(slot=2))
-    try_system(tally, "four processes, pool", program, {**made, "general": made["general, pool"]}, way, runs, FOUR)
-    try_system(tally, "sixteen processes", program, made, way, runs, SIXTEEN)
     tally.hold("wrong words", words_wrong(made, folder))
-    tally.hold("seeds", keygen_wrong(made, folder))
     tally.hold("seeds of a state", seeds_wrong(StateKeeper(made), os.path.join(folder, "kept")))
-    tally.hold("a pool that is too small", pool_wrong(made, folder))
     tally.hold("calls", with_little_stack(calls_wrong, program, library, False))
     tally.hold("calls, memory", with_little_stack(calls_wrong, program, library, True))
     for name, wrong in (("misuse", misuse_wrong), ("halves of rounds", halves_wrong), ("headers", header_wrong)):
@@ -671,7 +589,7 @@ def try_built(program, tally, folder):
         tally.count(3)
     else:
         tally.note("left out: both libraries in one program, as crates/sm_embed/out/libsm_embed.a is not there")
-    tally.count(37)
+    tally.count(24)
 
 
 def trials(program, tally):

@@ -1,14 +1,12 @@
 """A node's process that is killed at each point of its life, and the power that fails there: no node signs a second time.
 
-The process is a commander of embed/nodes/, over Unix sockets and over UDP. It is killed (SIGKILL, by dying.c) before, within and
-behind each call that writes to the disk, waits for the disk, renames, binds or sends. Then the disk is one of three: all is there
-that was written; nothing is there that no fsync waited for; or names are there, and no content that no fsync waited for. The folder
-counts as made just before the process, as by mkdir. So its own name is one of those for which an fsync of the folder above waits.
-If the folder is gone, it is made anew with what it had before the process. On each disk the general is started once more, with
-another order. Either it is refused, or the first process had not said that it is ready, and had sent nothing. What both processes
-sent together has one frame for each round and neighbour. The programs that make seeds and headers are killed so too: no seed is
-replaced, none is lost when keygen has ended, and no header is half of one. So is the program that keeps a node's state (keepers.py);
-bindings.py does the same with the packages.
+The process is a commander (embed/node.c). It is killed (SIGKILL, by dying.c) before, within and behind each call that writes to
+the disk, waits for the disk, renames, binds or sends. Then the disk is one of three: all is there that was written; nothing is there
+that no fsync waited for; or names are there, and no content that no fsync waited for. The folder counts as made just before the
+process, as by mkdir. So its own name is one of those for which an fsync of the folder above waits. If the folder is gone, it is made
+anew with what it had before the process. On each disk the general is started once more, with another order. Either it is refused, or
+the first process had not said that it is ready, and had sent nothing. What both processes sent together has one frame for each round
+and neighbour. A program that keeps a node's state is killed so too (state.c, keepers.py); bindings.py does the same with the packages.
 
 The archive is that of nodes.py; without it, or without a compiler, nothing is tried, and a line says so.
 """
@@ -21,14 +19,13 @@ import time
 from typing import NamedTuple
 
 from datagrams import FRONT, free_addresses, write_places
-from disks import DISKS, build_killer, copied, fail_power, killed
-from embed import do
+from disks import DISKS, build_killer, copied, fail_power
 from keepers import StateKeeper, keeper_wrong
 from processes import LATE, MOST_TRIES, System, build_programs, make_header, try_with_library
-from programs import run, side_by_side
+from programs import side_by_side
 
 # Four generals, of whom the commander alone is a process.
-FOUR = System(4, 2, 3, {}, {})
+FOUR = System(4, 2, 3, None, {})
 # The length of a round at first, in milliseconds. Where a process is late, it is made again with rounds twice as long.
 ROUND = 100
 LOG, NEW = "0.log", "0.log.new"
@@ -43,41 +40,8 @@ class Life(NamedTuple):
     sent: set
 
 
-class Unix:
-    """The sockets of the neighbours, in the folder."""
-
-    program, clock = "general", time.CLOCK_MONOTONIC
-
-    def __init__(self, folder):
-        self.sockets = [socket.socket(socket.AF_UNIX, socket.SOCK_DGRAM) for _ in range(3)]
-        for number, made in enumerate(self.sockets, 1):
-            made.bind(os.path.join(folder, str(number)))
-
-    def frame_of(self, data):
-        """What a datagram has of a frame."""
-        return data[36], data[38], data
-
-    def sent(self):
-        """What has come."""
-        came = set()
-        for made in self.sockets:
-            made.setblocking(False)
-            try:
-                while True:
-                    came.add(self.frame_of(made.recv(1 << 17)))
-            except BlockingIOError:
-                continue
-        return came
-
-    def close(self):
-        for made in self.sockets:
-            made.close()
-
-
-class Udp(Unix):
-    """Their sockets at addresses of this machine. A frame is known by its first pieces, each by its place."""
-
-    program, clock = "general_udp", time.CLOCK_REALTIME
+class Ear:
+    """The sockets of the neighbours at addresses of this machine. A frame is known by its first pieces, each by its place."""
 
     def __init__(self, folder):
         self.sockets = [socket.socket(socket.AF_INET6, socket.SOCK_DGRAM) for _ in range(3)]
@@ -87,22 +51,36 @@ class Udp(Unix):
         own = free_addresses([socket.AF_INET6])
         write_places(folder, enumerate([*own, *(made.getsockname() for made in self.sockets)]))
 
-    def frame_of(self, data):
-        return data[36], (data[38], data[43:FRONT]), data
+    def sent(self):
+        """What has come."""
+        came = set()
+        for made in self.sockets:
+            made.setblocking(False)
+            try:
+                while True:
+                    data = made.recv(1 << 17)
+                    came.add((data[36], (data[38], data[43:FRONT]), data))
+            except BlockingIOError:
+                continue
+        return came
+
+    def close(self):
+        for made in self.sockets:
+            made.close()
 
 
-def live(made, killer, way, folder, order, point, length):
+def live(made, killer, folder, order, point, length):
     """A process of the commander with an order, which is killed at a point, and the neighbours that listen to it."""
-    calls, ear = os.path.join(folder, "calls"), way(folder)
+    calls, ear = os.path.join(folder, "calls"), Ear(folder)
     given = {**os.environ, "LD_PRELOAD": killer, "CALLS_TO": calls}
     if point:
         given |= {"DIE_AT": str(point[0]), "DIE": point[1]}
-    words, pipe = [made[way.program][-1], folder, "0", str(length), order], subprocess.PIPE
+    words, pipe = [made["node"][-1], folder, "0", str(length), order], subprocess.PIPE
     try:
         with subprocess.Popen(words, stdin=pipe, stdout=pipe, stderr=subprocess.STDOUT, text=True, env=given) as process:
             said = process.stdout.readline()
             if said == "ready\n":
-                said += process.communicate(f"{int(time.clock_gettime(way.clock) * 1000) + 50}\n")[0]
+                said += process.communicate(f"{int(time.time() * 1000) + 50}\n")[0]
             else:
                 said += process.communicate()[0]
         sent = ear.sent()
@@ -112,31 +90,28 @@ def live(made, killer, way, folder, order, point, length):
     return Life(process.returncode, said, [line.split() for line in lines], sent)
 
 
-def live_in_time(made, killer, way, make_folder, order, point=None):
+def live_in_time(made, killer, make_folder, order, point=None):
     """A process in a folder that is made for it, anew with longer rounds where it was late."""
     for tried in range(MOST_TRIES):
-        life = live(made, killer, way, make_folder(), order, point, ROUND << tried)
+        life = live(made, killer, make_folder(), order, point, ROUND << tried)
         if life.status != LATE and "in use" not in life.said:
             break
     return life
 
 
 def on_disk(folder, base, calls, disk):
-    """A folder with what is on a disk behind a process in a folder. Of sockets nothing is left where power failed."""
+    """A folder with what is on a disk behind a process in a folder."""
     made = f"{folder}.{disk}"
     shutil.rmtree(made, ignore_errors=True)
-    shutil.copytree(folder, made, ignore=shutil.ignore_patterns("calls", *"0123"))
-    if disk == 0 and os.path.exists(os.path.join(folder, "0")):
-        with socket.socket(socket.AF_UNIX, socket.SOCK_DGRAM) as left:
-            left.bind(os.path.join(made, "0"))
+    shutil.copytree(folder, made, ignore=shutil.ignore_patterns("calls"))
     fail_power(made, base, calls, disk)
     return made
 
 
-def again_wrong(made, killer, way, base, folder, first, disk):
+def again_wrong(made, killer, base, folder, first, disk):
     """None where the second process of a general is refused, or the first one had neither sent nor been ready."""
     is_there = os.path.exists(os.path.join(on_disk(folder, base, first.calls, disk), LOG))
-    second = live_in_time(made, killer, way, lambda: on_disk(folder, base, first.calls, disk), "2")
+    second = live_in_time(made, killer, lambda: on_disk(folder, base, first.calls, disk), "2")
     if is_there:
         is_right = second.status == 1 and LOG in second.said and not second.sent
     else:
@@ -158,85 +133,36 @@ def points_of(calls):
     return [(at, how) for at in numbers for how in ("before", "after", *(["within"] if calls[at - 1][0] == "write" else []))]
 
 
-def lives_wrong(made, killer, way, folder):
+def lives_wrong(program, made, killer, folder):
     """None where no point of a general's life lets it sign twice."""
     base = os.path.join(folder, "base")
     os.mkdir(base)
-    make_header(made, base, FOUR)
-    whole = live_in_time(made, killer, way, lambda: copied(base, os.path.join(folder, "whole")), "1")
+    make_header(program, base, FOUR)
+    whole = live_in_time(made, killer, lambda: copied(base, os.path.join(folder, "whole")), "1")
     if whole.status != 0 or len(whole.sent) < 9 or ["rename", NEW, LOG] not in whole.calls:
         return f"a whole life: {whole.status} {whole.said!r}, {whole.calls}", 0
 
     def point_wrong(point):
         of_point = os.path.join(folder, f"{point[0]}{point[1]}")
-        life = live_in_time(made, killer, way, lambda: copied(base, of_point), "1", point)
+        life = live_in_time(made, killer, lambda: copied(base, of_point), "1", point)
         if life.status != -signal.SIGKILL:
             return f"{point}: it ended with {life.status}, {life.said!r}"
-        wrongs = [again_wrong(made, killer, way, base, of_point, life, disk) for disk in range(len(DISKS))]
+        wrongs = [again_wrong(made, killer, base, of_point, life, disk) for disk in range(len(DISKS))]
         return next((f"{point}, {DISKS[disk]}: {wrong}" for disk, wrong in enumerate(wrongs) if wrong), None)
 
     points = points_of(whole.calls)
     return next(filter(None, side_by_side(point_wrong, points)), None), len(points)
 
 
-def files_wrong(made, killer, folder):
-    """None where keygen and header leave, wherever they are killed, what is whole or what is refused."""
-    base = os.path.join(folder, "base")
-    os.mkdir(base)
-    make_header(made, base, FOUR)
-    roots = [do([*made["header"], "root", base, str(it), "1"]).strip() for it in range(4)]
-    header = [made["header"][-1], "make", None, "1", "0", "4", "2", "1", "3", "0", "0-1,0-2,0-3,1-2,1-3,2-3", *roots]
-    old = open(os.path.join(base, "header"), "rb").read()
-    for kind, words in (("seed", [made["keygen"][-1], None, "5"]), ("header", header)):
-        for at in range(1, 8):
-            for how in ("before", "within", "after"):
-                wrong = file_wrong(made, killer, base, os.path.join(folder, f"{kind}{at}{how}"), kind, words, (at, how), old)
-                if wrong:
-                    return f"{kind}, {(at, how)}: {wrong}"
-    return None
-
-
-def file_wrong(made, killer, base, folder, kind, words, point, old):
-    """None where a seed or a header is as it has to be behind a program that was killed, on each disk."""
-    shutil.copytree(base, folder)
-    end, calls = killed(killer, [folder if it is None else it for it in words], folder, point)
-    status = end.status
-    if status not in (0, -signal.SIGKILL):
-        return f"status {status}"
-    for disk in range(len(DISKS)):
-        other = on_disk(folder, base, calls, disk)
-        if kind == "header":
-            if open(os.path.join(other, "header"), "rb").read() != old:
-                return f"{DISKS[disk]}: another header"
-            continue
-        path = os.path.join(other, "5.seed")
-        before = open(path, "rb").read() if os.path.exists(path) else None
-        if status == 0 and len(before or b"") != 32:
-            return f"{DISKS[disk]}: the seed is lost"
-        again = run(words[0], [other, "5"])
-        root = run(made["header"][-1], ["root", other, "5", "1"])
-        after = open(path, "rb").read()
-        if before is not None and (after != before or again.status != 1):
-            return f"{DISKS[disk]}: a seed is replaced"
-        if (len(after) == 32) != (root.status == 0):
-            return f"{DISKS[disk]}: {len(after)} bytes of a seed, and {root}"
-    return None
-
-
-def try_built(tally, folder):
+def try_built(program, tally, folder):
     """All trials over the archive."""
     made, killer = build_programs(folder), build_killer(folder)
-    for name, way in (("sockets", Unix), ("UDP", Udp)):
-        of_way = os.path.join(folder, way.program)
-        os.mkdir(of_way)
-        wrong, points = lives_wrong(made, killer, way, of_way)
-        tally.hold(f"each point of a life, {name}", wrong)
-        tally.count(points * (1 + len(DISKS)))
-    of_files = os.path.join(folder, "files")
-    os.mkdir(of_files)
-    tally.hold("seeds and headers", files_wrong(made, killer, of_files))
-    of_states = os.path.join(folder, "states")
+    of_lives, of_states = (os.path.join(folder, name) for name in ("lives", "states"))
+    os.mkdir(of_lives)
     os.mkdir(of_states)
+    wrong, points = lives_wrong(program, made, killer, of_lives)
+    tally.hold("each point of a life", wrong)
+    tally.count(points * (1 + len(DISKS)))
     keeper = StateKeeper(made)
     wrong, runs = keeper_wrong(keeper, keeper, killer, of_states)
     tally.hold("each point of a state", wrong)
@@ -244,4 +170,4 @@ def try_built(tally, folder):
 
 
 def trials(program, tally):
-    try_with_library(tally, lambda folder: try_built(tally, folder))
+    try_with_library(tally, lambda folder: try_built(program, tally, folder))

@@ -1,6 +1,6 @@
-"""Generals as processes (embed/nodes/), whichever way frames go between them, and what of their run has to be the scenario's.
+"""Generals as processes (embed/node.c) over UDP, and what of their run has to be the scenario's.
 
-nodes.py drives them over Unix sockets, datagrams.py over UDP, and power.py kills them.
+datagrams.py drives them, and power.py kills them. A commander who tells two orders is two processes of one seed, at two addresses.
 """
 import os
 import shutil
@@ -11,19 +11,15 @@ import time
 from typing import NamedTuple
 
 from embed import EMBED, SANITIZERS, STACK, TOP, WARNINGS, IsNotBuilt, do
-from layout import Bundle
+from layout import MARK, Bundle
 from programs import run, side_by_side
 from scenarios import ZEROS, everybody, scenario
 from model.keys import digest, general_seed
 
 ARCHIVE = os.path.join(TOP, "crates", "sm_node", "out", "libsm_node.a")
-NODES = os.path.join(EMBED, "nodes")
 OF_C = ["cc", "-std=c11", "-O2", "-D_DEFAULT_SOURCE", *WARNINGS, "-I", EMBED]
-# The programs of embed/nodes, and the files that each is made of.
-PARTS = {name: [name] for name in ("keygen", "state", "header", "bundle")}
-PARTS |= {name: ["rounds", name, "sockets"] for name in ("general", "traitor")}
-PARTS |= {f"{name}_udp": ["rounds", name, "datagrams"] for name in ("general", "traitor")}
-OF_RUNS = [name for name in PARTS if "rounds" in PARTS[name]]
+NODE, STATE = os.path.join(EMBED, "node.c"), os.path.join(TOP, "trials", "state.c")
+HEAP, POOL = (os.path.join(EMBED, name) for name in ("heap.c", "pool.c"))
 # A pool that no node has enough of.
 SMALL = "-DSM_POOL_BYTES=4096"
 # So often are all run again with rounds twice as long, where a process can't keep to the clock.
@@ -50,18 +46,30 @@ def try_with_library(tally, part):
             tally.fail(str(told))
 
 
+class Twin(NamedTuple):
+    """The commander's second process: its order, and the generals that it deceives."""
+
+    order: str
+    deceived: tuple
+
+
+# The place of this process among those of generals.
+TWIN = 16
+
+
 class System(NamedTuple):
-    """Generals as processes, who are all neighbours; the words that some have besides, and scripts that say the same. One may
-    be killed in round 2, and some never begin."""
+    """Generals as processes, who are all neighbours; the order of a commander that has one, and scripts that say the same as the
+    processes of those who are not loyal. One may be killed in round 2, and some never begin."""
 
     generals: int
     traitors: int
     orders: int
-    words: dict
+    order: str | None
     scripts: dict
     killed: int | None = None
     silent: tuple = ()
     slot: int | None = None
+    twin: Twin | None = None
 
     def loyal(self):
         return [general for general in range(self.generals) if general not in self.scripts]
@@ -72,8 +80,18 @@ class System(NamedTuple):
     def ended(self):
         return [general for general in self.begun() if general != self.killed]
 
-    def faulty(self):
-        return sum(1 << general for general in self.scripts)
+    def places(self):
+        """The places of all processes."""
+        return [*self.begun(), *([TWIN] if self.twin else [])]
+
+    def place(self, general, other):
+        """The place of the process with which another general talks as with this one."""
+        return TWIN if general == 0 and self.twin and other in self.twin.deceived else general
+
+    def order_of(self, place):
+        """The order of a process, as its last word."""
+        order = {0: self.order, TWIN: self.twin and self.twin.order}.get(place)
+        return [order] if order else []
 
     def text(self):
         """Their scenario, whose order is 1."""
@@ -89,27 +107,24 @@ class System(NamedTuple):
 # Four generals, of whom the commander tells two orders and general 3 is killed in round 2, when he has sent his frames.
 TOLD = ["make 1 1 1 0", "make 1 2 2 0", "make 1 3 2 0"]
 KILLED = ["pass 2 1 0 2 3", "pass 2 2 0 2 3"]
-FOUR = System(4, 2, 3, {0: ["1", "2", "2,3"]}, {0: TOLD, 3: KILLED}, killed=3)
+FOUR = System(4, 2, 3, "1", {0: TOLD, 3: KILLED}, killed=3, twin=Twin("2", (2, 3)))
 # Sixteen, of whom each sends more frames at once than a socket holds.
-SIXTEEN = System(16, 1, 2, {0: ["1"]}, {})
+SIXTEEN = System(16, 1, 2, "1", {})
 
 
 def build_programs(folder):
-    """The programs of embed/nodes, those of runs under sanitizers too, each as the words that begin it."""
-    heap, pool = os.path.join(EMBED, "heap.c"), os.path.join(NODES, "pool.c")
-    plain = {name: [*OF_C, *(os.path.join(NODES, f"{part}.c") for part in PARTS[name])] for name in PARTS}
-    builds = {name: [*plain[name], heap] for name in PARTS}
-    builds |= {f"{name}, sanitized": [*builds[name], *SANITIZERS] for name in OF_RUNS}
-    builds |= {"general, pool": [*plain["general"], pool], "general, small pool": [*plain["general"], SMALL, pool]}
+    """The programs, a node under sanitizers and over pools too, each as the words that begin it."""
+    builds = {"node": [NODE, HEAP], "node, sanitized": [*SANITIZERS, NODE, HEAP], "node, pool": [NODE, POOL]}
+    builds |= {"node, small pool": [SMALL, NODE, POOL], "state": [STATE, HEAP]}
     made = {name: os.path.join(folder, f"{number}.built") for number, name in enumerate(builds)}
-    side_by_side(lambda name: do([*builds[name], ARCHIVE, "-o", made[name]]), builds)
+    side_by_side(lambda name: do([*OF_C, *builds[name], ARCHIVE, "-o", made[name]]), builds)
     little = ["sh", "-c", f'ulimit -s {STACK // 1024} && exec "$@"', "sh"]
     return {name: [*([] if "sanitized" in name else little), path] for name, path in made.items()}
 
 
-def sanitized(made):
-    """The programs, with those of runs under sanitizers in their places."""
-    return {**made, **{name: made[f"{name}, sanitized"] for name in OF_RUNS}}
+def with_node(made, name):
+    """The programs, with another build of the node in its place."""
+    return {**made, "node": made[name]}
 
 
 def write_seeds(folder, generals, mode=0o600):
@@ -120,14 +135,11 @@ def write_seeds(folder, generals, mode=0o600):
             seed.write(seed_of(general))
 
 
-def make_header(made, folder, system):
-    """Writes the seeds, and the header by the roots of their keys."""
+def make_header(program, folder, system):
+    """Writes the seeds, and the header of the scenario."""
     write_seeds(folder, system.generals)
-    version = "1" if system.slot is None else "2"
-    roots = [do([*made["header"], "root", folder, str(g), version]).strip() for g in range(system.generals)]
-    edges = ",".join(f"{a}-{b}" for a, b in everybody(system.generals))
-    numbers_of = [version, system.slot or 0, system.generals, system.traitors, 1, system.orders, 0]
-    do([*made["header"], "make", folder, *map(str, numbers_of), edges, *roots])
+    with open(os.path.join(folder, "header"), "wb") as kept:
+        kept.write(Bundle(run(program, ["run"], system.text()).wrote).front[MARK:])
 
 
 def run_id_of(folder):
@@ -137,17 +149,14 @@ def run_id_of(folder):
 
 
 class Way:
-    """A way for frames between processes: what its programs end with, the clock of their beginning, how long a round is at
-    first, in milliseconds, and how many of these come until they begin."""
+    """A way for frames between processes: how long a round is at first, in milliseconds, and how many of these come until they
+    begin."""
 
-    ending, clock, length, before = "", time.CLOCK_MONOTONIC, 400, 200
+    length, before = 1000, 400
 
     def open(self, folder, system, length):
         """Makes what the processes need, and tells the folder of each of them. The header and the seeds are in the folder."""
-        return [folder] * system.generals
-
-    def disturb(self):
-        """Does what no process may mind, when all are ready."""
+        raise NotImplementedError
 
     def ahead(self, general):
         """How far the clock of a general is ahead, as a part of a round."""
@@ -160,17 +169,11 @@ class Way:
     def close(self):
         """Ends what was made."""
 
-    def wrong(self):
-        """None where the processes left nothing behind that they should have taken away."""
-        return None
 
-
-def start_general(made, way, folder, system, general, length):
+def start_process(made, folder, system, place, length):
     """A process of a general."""
-    words = system.words.get(general, [])
-    program = made[("traitor" if len(words) > 1 else "general") + way.ending]
-    pipe, words = subprocess.PIPE, [*program, folder, str(general), str(length), *words]
-    return subprocess.Popen(words, stdin=pipe, stdout=pipe, stderr=subprocess.STDOUT, text=True)
+    pipe, words = subprocess.PIPE, [folder, str(place % TWIN), str(length), *system.order_of(place)]
+    return subprocess.Popen([*made["node"], *words], stdin=pipe, stdout=pipe, stderr=subprocess.STDOUT, text=True)
 
 
 def kill_in_round_2(process, end):
@@ -188,23 +191,22 @@ def drive(system, way, processes, length):
     said = [process.stdout.readline() for process in processes.values()]
     if said != ["ready\n"] * len(processes):
         return [LATE if "in use" in "".join(said) else 1], said
-    way.disturb()
-    start, end = (int(time.clock_gettime(clock) * 1000) + way.before for clock in (way.clock, time.CLOCK_MONOTONIC))
-    for general, process in processes.items():
-        process.stdin.write(f"{start - int(way.ahead(general) * length)}\n")
+    start, end = (int(clock() * 1000) + way.before for clock in (time.time, time.monotonic))
+    for place, process in processes.items():
+        process.stdin.write(f"{start - int(way.ahead(place % TWIN) * length)}\n")
         process.stdin.flush()
     if system.killed is not None:
         status, said = kill_in_round_2(processes[system.killed], end + 2 * length)
         if status:
             return [status], said
-    others = [processes[general] for general in system.ended()]
+    others = [process for place, process in processes.items() if place != system.killed]
     lines = [process.stdout.read() for process in others]
     return [process.wait() for process in others], lines
 
 
 def run_once(made, way, folders, system, length):
     """One run of the processes."""
-    begun = {it: start_general(made, way, folders[it], system, it, length) for it in system.begun()}
+    begun = {it: start_process(made, folders[it], system, it, length) for it in system.places()}
     watch = threading.Timer(PATIENCE, lambda: [process.kill() for process in begun.values()])
     watch.start()
     try:
@@ -229,12 +231,12 @@ def bring_logs(folder, folders, system):
             shutil.copy(os.path.join(folders[general], f"{general}.log"), folder)
 
 
-def run_in_time(made, way, folder, system):
+def run_in_time(program, made, way, folder, system):
     """A run in which nobody was late: its folder, and the statuses and lines of those who weren't killed."""
     for tried in range(MOST_TRIES):
         of_run, length = os.path.join(folder, f"{len(os.listdir(folder))}"), way.length << tried
         os.mkdir(of_run)
-        make_header(made, of_run, system)
+        make_header(program, of_run, system)
         folders = way.open(of_run, system, length)
         try:
             statuses, lines = run_once(made, way, folders, system, length)
@@ -254,10 +256,11 @@ def wanted_bundle(program, system):
     return bundle, [line.split()[-1] for line in decided]
 
 
-def made_bundle(made, folder, faulty, generals):
+def made_bundle(program, folder, faulty, generals):
     """The bundle that is made of the logs of these."""
-    program, *words = made["bundle"]
-    return run(program, [*words, folder, str(faulty), *map(str, generals)]).wrote
+    listed = ["--faulty", ",".join(map(str, faulty))] if faulty else []
+    logs = [f"{general}={os.path.join(folder, f'{general}.log')}" for general in generals]
+    return run(program, ["bundle", *listed, os.path.join(folder, "header"), *logs]).wrote
 
 
 def lines_wrong(system, lines, decided):
@@ -273,7 +276,7 @@ def lines_wrong(system, lines, decided):
 
 def system_wrong(program, made, way, folder, system):
     """None where the run of the processes is that of the scenario, and their bundle is its bundle."""
-    of_run, statuses, lines = run_in_time(made, way, folder, system)
+    of_run, statuses, lines = run_in_time(program, made, way, folder, system)
     if any(statuses):
         return f"the processes ended with {statuses}: {lines}"
     bundle, decided = wanted_bundle(program, system)
@@ -282,14 +285,14 @@ def system_wrong(program, made, way, folder, system):
         with open(os.path.join(of_run, f"{loyal}.log"), "rb") as kept:
             if kept.read() != log:
                 wrong = wrong or f"the log of general {loyal} is another"
-    text = made_bundle(made, of_run, system.faulty(), system.loyal())
-    wrong = wrong or way.wrong() or (None if text == bundle.spell() else "the bundle is another")
+    text = made_bundle(program, of_run, sorted(system.scripts), system.loyal())
+    wrong = wrong or (None if text == bundle.spell() else "the bundle is another")
     return wrong or verdict_wrong(program, text, system)
 
 
 def verdict_wrong(program, bundle, system):
     """None where the bundle convicts a commander who tells two orders, by evidence that holds, and can be drawn."""
-    tells_two = len(system.words.get(0, [])) > 1
+    tells_two = system.twin is not None
     verdict, drawn = run(program, ["audit"], bundle), run(program, ["draw"], bundle)
     if drawn.status != 0 or (verdict.status, b"convicted 0 by K2\n" in verdict.wrote) != (0, tells_two):
         return f"the verdict is {verdict}, and {drawn.status} of the picture"

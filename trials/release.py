@@ -12,11 +12,13 @@ import hashlib
 import os
 import shlex
 import shutil
+import socket
 import subprocess
 import sys
 import tempfile
 
 from cargo_built import build_program
+from datagrams import free_addresses, write_places
 from going_on import follow
 from programs import commands_of, run, spell
 
@@ -278,12 +280,25 @@ def try_damaged(tree, place, tally):
     tally.hold("a damaged archive", None if end.status == 1 and not os.path.exists(prefix) else f"{end}")
 
 
+def make_run(tool, folder):
+    """The files of a run of two nodes."""
+    os.mkdir(folder)
+    lines = ["generals 2", "edge 0 1", "traitors 0", "diameter 1", "orders 2", "choice 0"]
+    for node in range(2):
+        path = os.path.join(folder, f"{node}.seed")
+        write(path, bytes([node]) * 32)
+        os.chmod(path, 0o600)
+        lines.append(f"root {run(tool, ['root', path]).wrote.decode().strip()}")
+    write(os.path.join(folder, "header"), run(tool, ["header"], "".join(f"{it}\n" for it in [*lines, "end"]).encode()).wrote)
+    write_places(folder, enumerate(free_addresses([socket.AF_INET] * 2)))
+
+
 def try_uses(prefix, place, tally):
     """Programs that are built of what was installed."""
     told = {**ENV, "PKG_CONFIG_PATH": os.path.join(prefix, "lib", "pkgconfig"), "LD_LIBRARY_PATH": os.path.join(prefix, "lib")}
     documents, folder = os.path.join(prefix, "share", "doc", "vamuretu"), os.path.join(place, "uses")
     os.mkdir(folder)
-    sources = (("judge.c", "example.c"), ("answers.h", "answers.h"), ("node.c", "nodes/header.c"), ("files.h", "nodes/files.h"))
+    sources = (("judge.c", "example.c"), ("answers.h", "answers.h"), ("node.c", "node.c"))
     for name, source in sources:
         shutil.copy(os.path.join(documents, "embed", source), os.path.join(folder, name))
     programs = {}
@@ -303,13 +318,14 @@ def try_uses(prefix, place, tally):
     else:
         tally.note("left out: cmake is not there")
     bundle, verdict = read(documents, "examples/split.bundle"), read(documents, "examples/split.verdict")
-    write(os.path.join(folder, "0.seed"), bytes(range(32)))
-    os.chmod(os.path.join(folder, "0.seed"), 0o600)
+    make_run(os.path.join(prefix, "bin", "sm_tool"), os.path.join(folder, "run"))
     for name, program in programs.items():
         if name.startswith("judge"):
             wrong = run(program, ["audit"], bundle, env=told).wrote != verdict
         else:
-            wrong = len(run(program, ["root", folder, "0", "1"], env=told).wrote) != 65
+            # A value that is none of the run's: the library makes the keys, and refuses the node.
+            end = run(program, [os.path.join(folder, "run"), "0", "9", "2"], env=told)
+            wrong = end.status != 1 or not end.said.startswith(b"sm_node_new")
         tally.hold(name, "it answers otherwise" if wrong else None)
 
 

@@ -18,11 +18,10 @@ import time
 from datagrams import free_addresses
 from embed import ARCHIVE as JOBS
 from embed import EMBED, TOP, IsNotBuilt, do
-from processes import ARCHIVE, LATE, MOST_TRIES, NODES, OF_C, PARTS
+from processes import ARCHIVE, LATE, MOST_TRIES, NODE, OF_C
 from programs import run
 
 PAGES = [os.path.join(TOP, "docs", name) for name in ("EMBED.md", "NODES.md")]
-PROGRAMS = ["keygen", "header", "bundle", "general_udp"]
 # The length of a round on the page, and so long before the first round both are told when it begins, in seconds.
 ROUND, AHEAD = 1000, 1.5
 # What calls the function of the page: on standard input is the bundle, and the word is the run id in digits.
@@ -78,13 +77,12 @@ def function_wrong(program, folder):
     return None
 
 
-def machines(folder):
-    """A folder for each of the two machines, with the programs of nodes in build/."""
+def machines(program, folder):
+    """A folder for each of the two machines, with the node in build/, and there the program too."""
     built = os.path.join(folder, "build")
     os.mkdir(built)
-    for name in PROGRAMS:
-        parts = [os.path.join(NODES, f"{part}.c") for part in PARTS[name]]
-        do([*OF_C, *parts, os.path.join(EMBED, "heap.c"), ARCHIVE, "-o", os.path.join(built, f"node_{name}")])
+    do([*OF_C, NODE, os.path.join(EMBED, "heap.c"), ARCHIVE, "-o", os.path.join(built, "node_c")])
+    os.symlink(program, os.path.join(built, "sm_tool"))
     made = [os.path.join(folder, f"machine{number}") for number in range(2)]
     for machine in made:
         os.mkdir(machine)
@@ -95,12 +93,13 @@ def machines(folder):
 def split(line):
     """The command of a line, and the nodes that give it: those of its comment, or that of its word behind `run`."""
     command, _, comment = line.partition("#")
-    return command.strip(), [0, 1] if "both" in comment else [int(re.search(r"run (\d)", command)[1])]
+    return command.strip(), [0, 1] if "both" in comment else [int(re.search(r"run[ /](\d)", command)[1])]
 
 
 def begun(command, machine):
     """A command that is begun in a machine's folder."""
-    return subprocess.Popen(["sh", "-c", command], cwd=machine, stdout=subprocess.PIPE, stderr=subprocess.STDOUT, text=True)
+    how = {"stdout": subprocess.PIPE, "stderr": subprocess.STDOUT, "text": True}
+    return subprocess.Popen(["sh", "-c", f"PATH=build:$PATH; {command}"], cwd=machine, **how)
 
 
 def prepared(made, length):
@@ -108,14 +107,14 @@ def prepared(made, length):
     free = free_addresses([socket.AF_INET] * 2)
     words = {f"192.0.2.{at} 4000": f"{host} {port}" for at, (host, port) in enumerate(free, 1)}
     last = []
-    for line in block_of("node_general_udp run 0").splitlines():
+    for line in block_of("node_c run 0").splitlines():
         command, nodes = split(line)
         for old, new in words.items():
             command = command.replace(old, new)
-        if "node_general_udp" in command:
+        if "node_c" in command:
             last.append((command.replace(f" {ROUND}", f" {length}"), nodes[0]))
             continue
-        said = [do(["sh", "-c", command], cwd=made[node]) for node in nodes]
+        said = [do(["sh", "-c", f"PATH=build:$PATH; {command}"], cwd=made[node]) for node in nodes]
         if " root " in command:
             words[f"R{nodes[0]}"] = said[0].strip()
     return last
@@ -138,7 +137,7 @@ def run_wrong(program, made, length):
     if ends != [0, 0] or any(not text.endswith("decides 1\n") for text in said):
         return f"{ends}: {said}"
     shutil.copy(os.path.join(made[1], "run", "1.log"), os.path.join(made[0], "run"))
-    bundle = run(os.path.join(made[0], "build", "node_bundle"), ["run", "0", "0", "1"], cwd=made[0]).wrote
+    bundle = run(program, ["bundle", "run/header", "0=run/0.log", "1=run/1.log"], cwd=made[0]).wrote
     verdict = run(program, ["audit", "--strict"], bundle)
     return None if verdict.status == 0 and b"\nverdict agreed 1\n" in verdict.wrote else f"{verdict}"
 
@@ -148,7 +147,7 @@ def try_run(program, tally, folder):
     for tried in range(MOST_TRIES):
         of_try = os.path.join(folder, str(tried))
         os.mkdir(of_try)
-        wrong = run_wrong(program, machines(of_try), ROUND << tried)
+        wrong = run_wrong(program, machines(program, of_try), ROUND << tried)
         if wrong != LATE:
             tally.hold("two nodes over UDP", wrong)
             tally.count(8)

@@ -10,8 +10,8 @@ full, first for logs alone and then for its state too. A neighbour of all stops 
 nodes were faulty, all others decide alike, and the watcher agrees. Faulty is who is down, late or the liar, and one end of
 each edge that lost a frame. The watcher convicts the liar alone, in each run in which two nodes heard its two orders. It
 has each log that a node says it has stored, and the memory of each process stays level. PLACES is `wired`, which wants
-root, or `plain`: then the addresses are those of this machine, no packet is lost and no disk is full, and the trial says
-so.
+root, or `cabled`, where the kernel carries the packets and loses none, or `plain`: then the addresses are those of this
+machine, no packet is lost and no disk is full, and the trial says so.
 """
 import collections
 import contextlib
@@ -20,6 +20,7 @@ import json
 import os
 import resource
 import signal
+import statistics
 import subprocess
 import sys
 import tempfile
@@ -50,9 +51,9 @@ DISK, LEFT, SPOOL = 32 << 20, 32 << 10, 16 << 20
 BUFFER = 1 << 16
 # How far ahead values are proposed, in runs; what an answer to that may take, and the end of the liar, in seconds.
 FORE, ANSWER, ANSWER_OF_LIAR = 8, 0.5, 5
-# By how much the memory of a process may grow from the first half of several cycles to the second, and what it may be at most, in
-# KiB: a node that was halted makes up for what it missed.
-GROWS, MOST = 8192, 131_072
+# By how much the memory of a process may grow from the second quarter of so many cycles to the last one, by the medians, and what
+# it may be at most, in KiB.
+GROWS, CYCLES, MOST = 1024, 8, 65_536
 # Of so many runs at least one has at most m faulty nodes, however busy the machine is.
 LEAST = 20
 # The runs that a system has beyond those that are tried.
@@ -281,13 +282,15 @@ def convictions_wrong(soak):
 
 
 def memory_wrong(soak, first):
-    """What is wrong with the memory: in the second half of the runs no process has much more than in the first."""
-    figures, wrong = {}, []
+    """What is wrong with the memory: in the last quarter of the cycles a process has more than in the second one, or too much."""
+    figures, wrong, cycles = {}, [], soak.runs // CYCLE
     for name, held in soak.memory.items():
-        before, last = (max((it for number, it in held if (number - first) * 2 // soak.runs == at), default=0) for at in (0, 1))
-        figures[name] = [before, last]
-        most = before + GROWS if soak.runs >= 2 * CYCLE else MOST
-        wrong += [f"the memory of {name} grew from {before} to {last} KiB"] if last > most else []
+        parts = [range(cycles // 4, cycles // 2), range(cycles - cycles // 4, cycles)]
+        levels = [[it for number, it in held if (number - first) // CYCLE in part] for part in parts]
+        before, last = (round(statistics.median(it)) if it else 0 for it in levels)
+        figures[name] = {"second quarter": before, "last quarter": last, "most": max(it for _, it in held)}
+        wrong += [f"the memory of {name} grew from {before} to {last} KiB"] if cycles >= CYCLES and last > before + GROWS else []
+        wrong += [f"{name} took {figures[name]['most']} KiB"] if figures[name]["most"] > MOST else []
     return wrong, figures
 
 
@@ -351,7 +354,8 @@ def soak_in(folder, tool, program, runs, places):
 def main():
     tool, program, runs, kind = sys.argv[1:]
     with tempfile.TemporaryDirectory(dir="/tmp") as folder:
-        places = wires.Wires(folder, NODES + 1) if kind == "wired" else wires.Loopback(NODES + 1)
+        kinds = {"wired": wires.Wires, "cabled": wires.Cables, "plain": lambda _, count: wires.Loopback(count)}
+        places = kinds[kind](folder, NODES + 1)
         places.hold(BUFFER)
         try:
             told = soak_in(folder, tool, program, int(runs), places)
@@ -364,10 +368,10 @@ def main():
     print(json.dumps(told), flush=True)
 
 
-def soaked(tool, program, runs):
+def soaked(tool, program, runs, kind="wired"):
     """What comes of so many runs, in namespaces of their own if these are to be had; and what lacks for that."""
     lacks = wires.what_lacks()
-    words = [sys.executable, "-B", os.path.abspath(__file__), tool, program, str(runs), "plain" if lacks else "wired"]
+    words = [sys.executable, "-B", os.path.abspath(__file__), tool, program, str(runs), "plain" if lacks else kind]
     how = {"stdin": subprocess.DEVNULL, "stdout": subprocess.PIPE}
     end = subprocess.run(words if lacks else wires.as_root(words), **how, check=False)
     lines = end.stdout.decode().splitlines()

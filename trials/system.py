@@ -1,5 +1,5 @@
 #!/usr/bin/env python3
-"""The way that docs/SYSTEM.md goes: each command there prints what stands there, over nodes as processes (embed/nodes/) and a system that goes on.
+"""The way that docs/SYSTEM.md goes: each command there prints what stands there, over nodes as processes (embed/node.c) and a system that goes on.
 
     trials/system.py PROGRAM
     trials/system.py reference
@@ -14,10 +14,12 @@ is done again with rounds twice as long.
 """
 import os
 import shutil
+import socket
 import sys
 import tempfile
 
 from cargo_built import build_program
+from datagrams import free_addresses
 from going_on import SECTION, follow
 from processes import ARCHIVE, MOST_TRIES
 from programs import commands_of
@@ -28,7 +30,9 @@ DOCUMENT = "SYSTEM.md"
 # The commands that are shown there.
 COMMANDS = {"root", "plan", "header", "bundle", "audit", "accuse", "evidence", "show", "answer"}
 # The length of a round in the document, and what a process that is late says.
-ROUND, LATE = " 1000 ", "ends with status 3"
+ROUND, LATE = " 1000 ", "late\n"
+# The port of the document, in whose place a free one is taken.
+PORT = " 4000"
 REFERENCE = '#!/bin/sh\nexec {} -B {} "$@"\n'
 
 
@@ -48,11 +52,11 @@ def fill(place, program):
 def ends(program, factor):
     """Each command of the document with what it printed and what it should print; none if a process was late."""
     rows = []
-    # A socket's address is short, so the folder has to be.
+    port = free_addresses([socket.AF_INET])[0][1]
     with tempfile.TemporaryDirectory(dir="/tmp") as place:
         fill(place, program)
         for command, wanted in shown(DOCUMENT, without=SECTION):
-            got = printed_by(command.replace(ROUND, f" {1000 * factor} "), place)
+            got = printed_by(command.replace(ROUND, f" {1000 * factor} ").replace(PORT, f" {port}"), place)
             if LATE in got:
                 return None
             rows.append((command, got, wanted))

@@ -1,5 +1,7 @@
-"""Network namespaces that are joined by wires (wires.c), in which packets are late or lost; and the addresses of this
-machine without them.
+"""Network namespaces that are joined by wires (wires.c), in which packets are late or lost, or by pairs of veth; and the
+addresses of this machine without them.
+
+The kernel's netem, by which a veth would lose packets, is in few kernels. So a process carries the packets of wires.
 """
 import contextlib
 import os
@@ -8,6 +10,7 @@ import shutil
 import socket
 import subprocess
 import sys
+import time
 
 from embed import TOP, WARNINGS, do
 
@@ -74,6 +77,32 @@ class Wires:
     def close(self):
         self.started.stdin.close()
         self.started.wait()
+
+
+class Cables(Wires):
+    """Namespaces that are joined by pairs of veth at a bridge. The kernel carries the packets, and none is late or lost."""
+
+    def __init__(self, _, count):
+        self.started = [subprocess.Popen(["unshare", "--net", "sleep", "infinity"]) for _ in range(count)]
+        self.sleepers = [it.pid for it in self.started]
+        do(["ip", "link", "add", "name", "cables", "type", "bridge"])
+        do(["ip", "link", "set", "cables", "up"])
+        own = os.readlink("/proc/self/ns/net")
+        for number, sleeper in enumerate(self.sleepers):
+            while os.readlink(f"/proc/{sleeper}/ns/net") == own:
+                time.sleep(0.01)
+            do(["ip", "link", "add", "name", f"cable{number}", "type", "veth", "peer", "name", "cable", "netns", str(sleeper)])
+            do(["ip", "link", "set", f"cable{number}", "master", "cables", "up"])
+            for words in (["addr", "add", f"10.77.0.{number + 1}/24", "dev", "cable"], ["link", "set", "cable", "up"], ["link", "set", "lo", "up"]):
+                do([*self.inside(number), "ip", *words])
+
+    def set(self, late=0.0, later=0.0, lost=0.0):
+        pass
+
+    def close(self):
+        for it in self.started:
+            it.kill()
+            it.wait()
 
 
 def free_ports(count):

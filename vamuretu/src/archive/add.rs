@@ -9,10 +9,12 @@ use std::sync::{Arc, Mutex};
 use std::time::{Duration, Instant};
 
 use indicatif::{ProgressBar, ProgressStyle};
+use sha2::{Digest, Sha256};
 use vamuretu::Fault;
 
 use super::files::{self, Listed, Names};
 use super::judged::{self, Admissions};
+use super::room::Rooms;
 use super::store::{Admission, Before, Judge, Outcome, Store};
 use crate::config::Id;
 use crate::watch::judge::digest;
@@ -67,8 +69,9 @@ pub fn id_of(text: &str) -> Result<Id, String> {
 /// This program, as the one that answers.
 fn this_judge() -> Result<Judge, End> {
     let own = Path::new("/proc/self/exe");
-    let program = digest(&std::fs::read(own).map_err(End::file(own))?);
-    Ok(Judge { library: vamuretu::version(), program })
+    let mut program = Sha256::new();
+    File::open(own).and_then(|mut it| io::copy(&mut it, &mut program)).map_err(End::file(own))?;
+    Ok(Judge { library: vamuretu::version(), program: hex::encode(program.finalize()) })
 }
 
 /// Adds files to an index.
@@ -88,7 +91,7 @@ pub fn add(words: &Add) -> Result<Done, End> {
     let judged = unread.len();
     store.write(&judge, &unread)?;
     let tasks = tasks(listed, before, words.read_all);
-    let work = Work { judge, admissions };
+    let work = Work { judge, admissions, rooms: Rooms::default() };
     let judged = judged + work.all(&mut store, tasks)?;
     store.close()?;
     Ok(Done { files, judged })
@@ -233,6 +236,7 @@ fn tasks(listed: Listed, mut before: BTreeMap<PathBuf, Before>, read_all: bool) 
 struct Work {
     judge: Judge,
     admissions: Admissions,
+    rooms: Rooms,
 }
 
 impl Work {
@@ -286,7 +290,7 @@ impl Work {
 
     /// What becomes of a file.
     fn one(&self, task: &Task) -> Outcome {
-        let content = match files::read(&task.path) {
+        let content = match files::read(&task.path, &self.rooms) {
             Ok(content) => content,
             Err(told) => return cannot_read(&told),
         };

@@ -1,7 +1,7 @@
 //! The files of an archive: which there are, and what they hold.
 //!
 //! A file that somebody else has made can be of any size, and a compressed one can hold far more. So what a file unpacks to
-//! is counted before any of it is kept.
+//! is known before any of it is kept, and all that is held side by side has a bound ([`super::room`]).
 
 use std::collections::BTreeSet;
 use std::ffi::OsStr;
@@ -10,10 +10,13 @@ use std::io::{self, BufRead, Read};
 use std::os::unix::ffi::{OsStrExt, OsStringExt};
 use std::os::unix::fs::MetadataExt;
 use std::path::{Path, PathBuf};
+use std::sync::Mutex;
 
 use serde::Deserialize;
 use walkdir::WalkDir;
+use zstd::zstd_safe::{find_frame_compressed_size, get_frame_content_size};
 
+use super::room::{Rooms, Taken};
 use crate::watch::judge::{digest, WINDOW};
 
 /// The most bytes that an input of the library has, as `sm_tool` takes them.
@@ -21,6 +24,11 @@ pub const MOST_INPUT: u64 = 1 << 30;
 /// What the names of bundles and campaigns end with in a folder, and what a compressed one has behind.
 const ENDS: [&str; 2] = [".bundle", ".bundles"];
 const PACKED: &str = ".zst";
+/// An input, and what the library takes to judge it, are so many times its bytes.
+const JUDGED: u64 = 4;
+/// The longest window, as a power of two, with which threads count side by side. With longer ones they take turns.
+const SHORT_WINDOW: u32 = 21;
+static LONG_WINDOW: Mutex<()> = Mutex::new(());
 
 /// What is known of a file without reading it.
 #[derive(Debug, Clone, Copy, PartialEq, Eq)]
@@ -30,14 +38,14 @@ pub struct Stamp {
     pub modified: i64,
 }
 
-/// What a file holds.
-#[derive(Debug)]
-pub struct Content {
+/// What a file holds, with the room for it.
+pub struct Content<'a> {
     pub stamp: Stamp,
     /// The SHA-256 of the file as it is stored.
     pub sha256: String,
     /// What the library is handed, or why there is nothing to hand.
     pub input: io::Result<Vec<u8>>,
+    _taken: Option<Taken<'a>>,
 }
 
 /// What is to be judged.
@@ -96,7 +104,7 @@ pub fn stamp(path: &Path) -> io::Result<Stamp> {
 }
 
 /// Reads a file. What it unpacks to may be refused though the file can be read.
-pub fn read(path: &Path) -> io::Result<Content> {
+pub fn read<'a>(path: &Path, rooms: &'a Rooms) -> io::Result<Content<'a>> {
     // A name that has become a pipe meanwhile must not hold up a thread.
     stamp(path)?;
     let file = File::open(path)?;
@@ -104,31 +112,59 @@ pub fn read(path: &Path) -> io::Result<Content> {
     if stamp.bytes > MOST_INPUT {
         return Err(too_long("it has"));
     }
+    let of_stored = rooms.stored.take(stamp.bytes);
     let mut stored = Vec::new();
     file.take(MOST_INPUT + 1).read_to_end(&mut stored)?;
     let sha256 = digest(&stored);
-    let input = match stored.len() as u64 > MOST_INPUT {
+    let is_packed = path.as_os_str().as_bytes().ends_with(PACKED.as_bytes());
+    let length = match stored.len() as u64 > MOST_INPUT {
         true => Err(too_long("it has")),
-        false if path.as_os_str().as_bytes().ends_with(PACKED.as_bytes()) => unpack(&stored, MOST_INPUT),
-        false => Ok(stored),
+        false if is_packed => unpacked_length(&stored, MOST_INPUT),
+        false => Ok(stored.len() as u64),
     };
-    Ok(Content { stamp, sha256, input })
+    let taken = length.as_ref().ok().map(|length| rooms.judged.take(JUDGED * length));
+    let input = length.and_then(|length| if is_packed { unpack(&stored, length) } else { Ok(stored) });
+    drop(of_stored);
+    Ok(Content { stamp, sha256, input, _taken: taken })
 }
 
-/// What was compressed by zstd, if it has at most so many bytes. It is counted first, in little memory.
-pub fn unpack(stored: &[u8], most: u64) -> io::Result<Vec<u8>> {
-    let unpacked = || {
-        let mut zstd = zstd::stream::read::Decoder::with_buffer(stored)?;
-        zstd.window_log_max(WINDOW)?;
-        io::Result::Ok(zstd.take(most + 1))
+/// How many bytes zstd has compressed, if these are at most so many. The frames say it, or it is counted.
+fn unpacked_length(stored: &[u8], most: u64) -> io::Result<u64> {
+    let length = match said_length(stored) {
+        Some(length) => length,
+        None => count(stored, most, SHORT_WINDOW).or_else(|_| {
+            let _turn = LONG_WINDOW.lock().unwrap_or_else(|told| told.into_inner());
+            count(stored, most, WINDOW)
+        })?,
     };
-    let length = io::copy(&mut unpacked()?, &mut io::sink())?;
-    if length > most {
-        return Err(wrong(format!("it unpacks to more than {most} bytes")));
+    match length > most {
+        true => Err(wrong(format!("it unpacks to more than {most} bytes"))),
+        false => Ok(length),
     }
+}
+
+/// How many bytes the frames of a file say that they have, if each says it.
+fn said_length(mut stored: &[u8]) -> Option<u64> {
+    let mut length = 0_u64;
+    while !stored.is_empty() {
+        length = length.saturating_add(get_frame_content_size(stored).ok()??);
+        stored = stored.get(find_frame_compressed_size(stored).ok()?..)?;
+    }
+    Some(length)
+}
+
+/// Counts what a file unpacks to, as far as one byte more than a bound. No more is held than a window.
+fn count(stored: &[u8], most: u64, window: u32) -> io::Result<u64> {
+    let mut zstd = zstd::stream::read::Decoder::with_buffer(stored)?;
+    zstd.window_log_max(window)?;
+    io::copy(&mut zstd.take(most + 1), &mut io::sink())
+}
+
+/// What was compressed by zstd, which has so many bytes. They are where zstd looks back, so it holds no window beside them.
+fn unpack(stored: &[u8], length: u64) -> io::Result<Vec<u8>> {
     let mut input = Vec::new();
     input.try_reserve_exact(length as usize).map_err(|_| io::Error::from(io::ErrorKind::OutOfMemory))?;
-    unpacked()?.read_to_end(&mut input)?;
+    zstd::bulk::Decompressor::new()?.decompress_to_buffer(stored, &mut input)?;
     Ok(input)
 }
 
@@ -247,12 +283,36 @@ mod tests {
     #[test]
     fn what_a_file_unpacks_to_has_a_bound() {
         let zeros = vec![0; 1 << 20];
-        let packed = pack(&zeros).expect("memory");
-        assert_eq!(unpack(&packed, 1 << 20).expect("compressed"), zeros);
-        let told = unpack(&packed, (1 << 20) - 1).expect_err("too long").to_string();
-        assert_eq!(told, "it unpacks to more than 1048575 bytes");
-        assert_eq!(unpack(&[&packed[..], &packed[..]].concat(), 2 << 20).expect("compressed").len(), 2 << 20);
-        assert!(unpack(&packed[..9], 1 << 20).is_err() && unpack(b"no such bytes", 99).is_err());
+        let unpacked = |stored: &[u8], most| unpacked_length(stored, most).and_then(|length| unpack(stored, length));
+        let unsaid = zstd::encode_all(&zeros[..], 3).expect("memory");
+        for (packed, is_said) in [(pack(&zeros).expect("memory"), true), (unsaid, false)] {
+            assert_eq!(said_length(&packed).is_some(), is_said);
+            assert_eq!(unpacked(&packed, 1 << 20).expect("compressed"), zeros);
+            let told = unpacked(&packed, (1 << 20) - 1).expect_err("too long").to_string();
+            assert_eq!(told, "it unpacks to more than 1048575 bytes");
+            assert_eq!(unpacked(&[&packed[..], &packed[..]].concat(), 2 << 20).expect("compressed").len(), 2 << 20);
+            assert!(unpacked(&packed[..9], 1 << 20).is_err());
+        }
+        assert!(unpacked(b"no such bytes", 99).is_err());
+    }
+
+    #[test]
+    fn a_long_window_takes_its_turn() {
+        let mut zstd = zstd::Encoder::new(vec![], 1).expect("memory");
+        zstd.window_log(WINDOW).expect("a window");
+        std::io::Write::write_all(&mut zstd, &[7; 1 << 20]).expect("memory");
+        let packed = zstd.finish().expect("memory");
+        assert!(count(&packed, 1 << 20, SHORT_WINDOW).is_err());
+        assert_eq!(unpacked_length(&packed, 1 << 20).expect("compressed"), 1 << 20);
+    }
+
+    #[test]
+    fn a_frame_that_says_another_length_is_refused() {
+        let mut packed = pack(&[7; 1000]).expect("memory");
+        assert_eq!(said_length(&packed), Some(1000));
+        let at = packed.windows(2).position(|it| it == (1000_u16 - 256).to_le_bytes()).expect("the length");
+        packed[at] ^= 1;
+        assert!(unpacked_length(&packed, 2000).and_then(|length| unpack(&packed, length)).is_err());
     }
 
     #[test]
@@ -260,11 +320,12 @@ mod tests {
         let folder = folder("content");
         std::fs::write(folder.join("a.bundle.zst"), pack(b"abc").expect("memory")).expect("a file");
         std::fs::write(folder.join("b.bundle.zst"), "abc").expect("a file");
-        let read = |name: &str| read(&folder.join(name)).expect("a file");
+        let rooms = Rooms::default();
+        let read = |name: &str| read(&folder.join(name), &rooms).expect("a file");
         assert_eq!(read("a.bundle.zst").input.expect("compressed"), b"abc");
         let bad = read("b.bundle.zst");
         assert_eq!((bad.stamp.bytes, bad.sha256, bad.input.is_err()), (3, digest(b"abc"), true));
-        assert!(super::read(&folder).is_err() && super::read(&folder.join("none")).is_err());
+        assert!(super::read(&folder, &rooms).is_err() && super::read(&folder.join("none"), &rooms).is_err());
         std::fs::remove_dir_all(folder).expect("a folder");
     }
 }

@@ -6,6 +6,7 @@ mod export;
 pub mod files;
 pub mod judged;
 pub mod read;
+pub mod room;
 mod store;
 
 use std::io::{self, Write};

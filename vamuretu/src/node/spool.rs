@@ -5,7 +5,7 @@
 
 use std::collections::{BTreeMap, BTreeSet};
 use std::fs;
-use std::io::{self, Write};
+use std::io;
 use std::path::{Path, PathBuf};
 use std::sync::{Arc, Mutex, MutexGuard};
 use std::time::{Duration, SystemTime};
@@ -17,11 +17,9 @@ use super::counts::Counts;
 use super::Shared;
 use crate::config::{NodeFile, Watcher};
 use crate::frames::{self, Backoff, Hello, Stream, Transport};
+use crate::watch::judge::pack;
 use crate::{disk, End};
 
-/// How far back zstd looks for what is the same: 2^27 bytes.
-const WINDOW: u32 = 27;
-const LEVEL: i32 = 3;
 /// How many logs go out before an answer to the first has come, and how long one may take.
 const MOST_UNANSWERED: usize = 16;
 const MOST_ANSWER: Duration = Duration::from_secs(30);
@@ -67,15 +65,6 @@ pub struct Spool {
     turn: Mutex<()>,
     come: Notify,
     counts: Counts,
-}
-
-/// A log as zstd compresses it.
-fn compressed(log: &[u8]) -> io::Result<Vec<u8>> {
-    let mut encoder = zstd::Encoder::new(Vec::new(), LEVEL)?;
-    encoder.long_distance_matching(true)?;
-    encoder.window_log(WINDOW)?;
-    encoder.write_all(log)?;
-    encoder.finish()
 }
 
 /// The file of a log, in the folder of the spool.
@@ -135,7 +124,7 @@ impl Spool {
     /// Keeps the log of a run. It is on the disk when this returns `true`. Where there is no room, the oldest logs go that
     /// each watcher has acknowledged; if that is not enough, the log is not kept.
     pub fn keep(&self, run: u32, log: &[u8]) -> bool {
-        let kept = compressed(log).and_then(|bytes| self.put(run, &bytes));
+        let kept = pack(log).and_then(|bytes| self.put(run, &bytes));
         if let Err(told) = &kept {
             self.counts.spool_refused.inc();
             tracing::error!(alarm = "spool", run, %told, "the log was not kept");

@@ -9,6 +9,7 @@ use super::{close, counted, sentence, worth, Names, Report};
 use crate::archive::files;
 use crate::archive::judged::{Admissions, Answer, Run};
 use crate::archive::read::spelled;
+use crate::archive::room::Rooms;
 use crate::archive::{admissions_of, judged};
 use crate::End;
 
@@ -32,7 +33,8 @@ impl Known<'_> {
 
 /// The page on a file.
 pub fn page(asked: &Report, names: &Names) -> Result<Page, End> {
-    let content = files::read(&asked.of).map_err(End::file(&asked.of))?;
+    let rooms = Rooms::default();
+    let content = files::read(&asked.of, &rooms).map_err(End::file(&asked.of))?;
     let input = content.input.map_err(|told| End::fault(&asked.of, told))?;
     let wrong = |told: vamuretu::Fault| End::fault(&asked.of, told);
     let admissions = match asked.system {

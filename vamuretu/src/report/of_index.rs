@@ -11,6 +11,7 @@ use super::{close, commands, counted, quoted, sentence, worth, Names, Report};
 use crate::archive::digest_line;
 use crate::archive::files;
 use crate::archive::read::{spelled, Found, Kept, Question, Reader};
+use crate::archive::room::Rooms;
 use crate::watch::judge::digest;
 use crate::End;
 
@@ -343,7 +344,7 @@ fn pictures(page: &mut Page, told: &Told, asked: &Report) {
 
 /// The picture of a file that has the digest of the index.
 fn drawn(path: &Path, run: &Kept) -> Result<String, String> {
-    let input = files::read(path).and_then(|it| it.input).map_err(|told| told.to_string())?;
+    let input = files::read(path, &Rooms::default()).and_then(|it| it.input).map_err(|told| told.to_string())?;
     if run.input.as_deref() != Some(digest(&input).as_str()) {
         return Err("the file has other bytes now".into());
     }

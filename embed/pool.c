@@ -1,4 +1,4 @@
-/* A heap over a pool of fixed size, in place of ../heap.c, for a program that may not take more memory than it has
+/* A heap over a pool of fixed size, in place of heap.c, for a program that may not take more memory than it has
    planned. It keeps the rules of sm_heap.h. If the pool is used up, memory is refused: a call of the
    library is SM_MEMORY then, and may be made again.
 
@@ -6,7 +6,7 @@
    block. A run of correct nodes takes less than faulty neighbours can cause. So run a program once with a large pool, in
    which faulty neighbours send every value in every round in which it can count, as bench/pools.py does. Add what
    docs/NODES.md says of signatures that do not count. Free memory may lie in pieces: take a quarter more. */
-#include "../sm_heap.h"
+#include "sm_heap.h"
 #include <stdalign.h>
 #include <stdatomic.h>
 #include <string.h>
