@@ -1,5 +1,5 @@
 -- What words ask for that name several files, or a list of names.
-use Rattle.std.specs.Prelude.{ℕ, ◌≡◌, ◌⊎◌, ◌++◌, ◌||◌, Bool, true, false, List, [], ◌∷◌, codes, length, map, Option, Some, None, option_map, nat_le, nat_lt}
+use Rattle.std.specs.Prelude.{◌≡◌, ◌⊎◌, ◌++◌, ◌||◌, Bool, true, false, List, [], ◌∷◌, codes, length, map, Option, Some, None, option_map, nat_le, nat_lt}
 use Rattle.clap.specs.Words.{Row, Text, fault_of, first_of, subcommand_of}
 use Rattle.gen_words.specs.CommandLine.{tool}
 use Rattle.gen_words.specs.Several.{standards, words_of}
