@@ -1,5 +1,5 @@
 -- Roots that workers made of the seeds that they took.
-use Rattle.std.specs.Prelude.{ℕ, ◌≡◌, ◌<◌, List, [], length, slice_index_or, Option, None, Result, IfOk, IfSome}
+use Rattle.std.specs.Prelude.{ℕ, ◌≡◌, ◌<◌, List, [], length, slice_index_or, Option, None, Result, IfOk, IfSome, IsSome}
 use Rattle.std.specs.List.{All}
 use Rattle.std.specs.Global.{Vec}
 use Rattle.gen_types.specs.declared.heights.TreeHeight.{TreeHeight}
@@ -28,3 +28,7 @@ pub record AreFound (seeds : List (List ℕ)) (height : TreeHeight)
   pub all : length found ≡ length seeds
   pub each : (place : ℕ) → place < length seeds → IfSome (slice_index_or found place None)
       (λ root. root ≡ ring_root (slice_index_or seeds place []) height)
+
+-- a root is there at the place of each of these
+abbrev pub AreThere : List MadeRoot → List (Option (List ℕ)) → Type 0
+AreThere made found = All (λ m. IsSome (slice_index_or found m.place None)) made

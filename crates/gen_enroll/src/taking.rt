@@ -1,9 +1,9 @@
 //! Makes the roots of seeds, which several workers take one after another.
-ghost use Rattle.std.specs.Prelude.{◌≡◌, ◌<◌, ◌++◌, ℕ, List, IfOk, IfSome, OnOk, length, map};
+ghost use Rattle.std.specs.Prelude.{◌≡◌, ◌<◌, ◌++◌, ℕ, List, Err, IfOk, IfSome, MatchResult, OnOk, length, map};
 ghost use Rattle.std.specs.List.{All};
 ghost use Rattle.gen_types.specs.declared.heights.TreeHeight.{TreeHeight as Height};
 ghost use Rattle.gen_tree.specs.Rings.{ring_root};
-ghost use Rattle.gen_enroll.specs.Taking.{AreFound, AreMade, AreMadeByAll};
+ghost use Rattle.gen_enroll.specs.Taking.{AreFound, AreMade, AreMadeByAll, AreThere};
 
 use gen_tree::KeyTree;
 use gen_types::TreeHeight;
@@ -72,7 +72,8 @@ fn made_by_all<R: Threads + Sync>(
 /// Puts roots at the places of their seeds.
 fn put_roots(made: &[MadeRoot], found: &mut [Option<[u8; 32]>])
     requires { All (λ m. m.place < length found.old) made.now }
-    ensures { (seeds : List (List ℕ)) (height : Height) → AreMade seeds height made.now
+    ensures there { AreThere made.now found.new }
+    ensures found { (seeds : List (List ℕ)) (height : Height) → AreMade seeds height made.now
         → AreFound seeds height found.old → AreFound seeds height found.new }
 {
     'roots: for it in made {
@@ -86,7 +87,9 @@ fn put_share(
     found: &mut [Option<[u8; 32]>],
 ) -> Result<(), AllocError>
     requires { IfOk share.now (λ made. All (λ m. m.place < length found.old) made.items) }
-    ensures { (seeds : List (List ℕ)) (height : Height) → IfOk share.now (λ made. AreMade seeds height made.items)
+    ensures there { MatchResult share.now
+        (λ made. AreThere made.items found.new) (λ refused. result ≡ Err refused) }
+    ensures found { (seeds : List (List ℕ)) (height : Height) → IfOk share.now (λ made. AreMade seeds height made.items)
         → AreFound seeds height found.old → AreFound seeds height found.new }
 {
     match share {
