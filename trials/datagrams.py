@@ -295,8 +295,9 @@ def words_wrong(program, made, folder):
 
 def pool_wrong(made, folder):
     """None where a node whose pool is too small says that memory is refused, and has signed nothing."""
-    program, *words = made["node, small pool"]
-    end = run(program, [*words, os.path.join(folder, "words"), "0", "9", "1"])
+    (program, *words), place = made["node, small pool"], os.path.join(folder, "words")
+    write_places(place, enumerate(free_addresses([socket.AF_INET] * 4)))
+    end = run(program, [*words, place, "0", "9", "1"])
     return None if (end.status, end.wrote) == (1, b"") and b"memory" in end.said else f"{end}"
 
 
