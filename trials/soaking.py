@@ -47,13 +47,15 @@ STEPS, STEPS_BACK, IS_FULL, IS_QUITE_FULL, HAS_ROOM, HALTS, GOES_ON = 100, 115, 
 LOSSES = {"late": 2.0, "later": 4.0, "lost": 0.005}
 # What is free on the small disk, and what is left for a state but not for a log; what a spool on another disk has at most.
 DISK, LEFT, SPOOL = 32 << 20, 32 << 10, 16 << 20
+# How often a size is tried that is the disk's while a node writes to it.
+TRIES = 100
 # What the kernel keeps of a connection at most, so that who does not read stops who writes soon.
 BUFFER = 1 << 16
 # How far ahead values are proposed, in runs; what an answer to that may take, and the end of the liar, in seconds.
 FORE, ANSWER, ANSWER_OF_LIAR = 8, 0.5, 5
 # By how much the memory of a process may grow from the second quarter of so many cycles to the last one, by the medians, and what
-# it may be at most, in KiB.
-GROWS, CYCLES, MOST = 1024, 8, 65_536
+# it may be at most, in KiB: the watcher's SQLite fills its cache of 2 MiB meanwhile.
+GROWS, CYCLES, MOST = 3072, 8, 65_536
 # Of so many runs at least one has at most m faulty nodes, however busy the machine is.
 LEAST = 20
 # The runs that a system has beyond those that are tried.
@@ -101,9 +103,15 @@ class System(Made):
 
     def leave(self, room):
         """Gives the small disk a size that leaves so many bytes free."""
-        told = os.statvfs(self.path("disk"))
-        size = (told.f_blocks - told.f_bfree) * told.f_frsize + room
-        do(["mount", "-o", f"remount,size={size}", self.path("disk")])
+        for tried in range(TRIES):
+            told = os.statvfs(self.path("disk"))
+            size = (told.f_blocks - told.f_bfree) * told.f_frsize + room
+            try:
+                return do(["mount", "-o", f"remount,size={size}", self.path("disk")])
+            except IsNotBuilt:
+                # The node has written meanwhile, and more is there than this size.
+                if tried + 1 == TRIES:
+                    raise
 
     def liar(self, first, last, libraries):
         """Starts the liar for some runs."""

@@ -6,7 +6,7 @@
 is that systemd's first process, in namespaces, and its last line is a JSON object.
 
 The unit is vamuretu/systemd/vamuretu-node@.service with a drop-in, which names the program and the files, wants a sign of life each
-two seconds, and takes away what `systemd --user` does not do: another user, and the folders below /var and /run. The node is ready,
+two seconds, and takes away what `systemd --user` does not do: another user, the folders below /var and /run, and three bounds. The node is ready,
 and decides. It is halted, and systemd kills it and starts it again; it decides later runs then, and ends when it is stopped. A node
 with a wrong file is started once. Without systemd, namespaces and a group of processes (cgroup2) of one's own nothing is tried, and a
 line says so.
@@ -23,7 +23,7 @@ import tempfile
 import time
 
 from cargo_built import PACKAGE, build_program
-from controllers import Made
+from controllers import Made, Plan
 from wires import as_root
 
 SYSTEMD, UNIT = "/lib/systemd/systemd", "vamuretu-node@.service"
@@ -35,8 +35,14 @@ User=
 Group=
 StateDirectory=
 RuntimeDirectory=
+PrivateTmp=no
+ProtectHome=no
+ProtectKernelTunables=no
+ProtectKernelLogs=no
 ReadWritePaths={folder}
 """
+# A system whose runs are enough for this, one a second.
+PLAN = Plan(levels=6, period=1000, ahead=0)
 # What nobody waits for longer, in seconds.
 PATIENCE = 60
 NEEDED = (SYSTEMD, "unshare", "mount", "systemctl")
@@ -57,7 +63,7 @@ def awaited(what, call):
 
 
 def control(*words):
-    return subprocess.run(["systemctl", "--user", *words], capture_output=True, text=True, check=False)
+    return subprocess.run(["systemctl", "--user", *words], capture_output=True, text=True, check=False, timeout=PATIENCE)
 
 
 def shown(name):
@@ -68,7 +74,7 @@ def shown(name):
 
 
 def newest_run(path):
-    """The newest run that the node has decided, and how many these are."""
+    """The newest run, once the node has decided one."""
     with socket.socket(socket.AF_UNIX) as made:
         made.settimeout(1)
         made.connect(path)
@@ -131,7 +137,7 @@ def within(folder, program, path):
         return {"lacks": f"{told}"}
     try:
         return {"hangs": hung_wrong(path), "file": file_wrong()}
-    except TimeoutError as told:
+    except (TimeoutError, subprocess.TimeoutExpired) as told:
         return {"hangs": f"no sign of {told}; {shown(UNIT.replace('@', '@0'))}", "file": None}
     finally:
         systemd.terminate()
@@ -183,7 +189,7 @@ def trials(tool, tally):
         return
     try:
         with tempfile.TemporaryDirectory(dir="/tmp") as folder:
-            made = Made(tool, program, folder)
+            made = Made(tool, program, folder, PLAN)
             made.write("wrong.toml", b"x = 1\n")
             told = told_of(program, folder, top)
     finally:

@@ -106,6 +106,11 @@ impl Shared {
         self.counts.refused.with_label_values(&[&format!("{fault:?}")]).inc();
     }
 
+    /// Notes that the node is at work, which the system's manager is told.
+    fn be_alive(&self) {
+        self.alive.store(self.begun.elapsed().as_millis() as u64, Ordering::SeqCst);
+    }
+
     /// Has no run begin any more.
     pub fn drain(&self) {
         self.draining.store(true, Ordering::SeqCst);
@@ -206,8 +211,7 @@ impl Scheduler {
     /// Goes on until the node is told to end.
     fn go_on(&mut self) -> Result<(), End> {
         while !self.shared.draining.load(Ordering::SeqCst) {
-            let alive = self.shared.begun.elapsed().as_millis() as u64;
-            self.shared.alive.store(alive, Ordering::SeqCst);
+            self.shared.be_alive();
             self.under_way.retain(|run| !run.is_finished());
             self.shared.counts.under_way.set(self.under_way.len() as i64);
             let wait = match self.is_clock_right() {
@@ -386,11 +390,14 @@ pub fn run(file: &NodeFile) -> Result<(), End> {
     let mut scheduler = Scheduler { shared: shared.clone(), keeper, guard, expected, prepared, under_way };
     let ended = scheduler.go_on();
     let _ = sd_notify::notify(false, &[NotifyState::Stopping]);
-    for run in scheduler.under_way {
-        let _ = run.join();
+    // Runs under way may take longer than a sign of life may be away.
+    while scheduler.under_way.iter().any(|run| !run.is_finished()) {
+        shared.be_alive();
+        thread::sleep(LOOK);
     }
     let end = Instant::now() + MOST_SHIPPING;
     while shared.spool.waiting() > 0 && Instant::now() < end {
+        shared.be_alive();
         thread::sleep(LOOK);
     }
     let _ = std::fs::remove_file(&file.local.socket);
