@@ -290,6 +290,15 @@ def try_sources(index):
             # The first index has what it answered of a file that is gone.
             kept = [it for it in index.tables()["answers"] if os.path.exists(it[0])]
             same(f"rows by {word}", other.tables()["answers"], kept)
+    try_audit_lines(index, [it for it in files if "\udcff" not in it])
+
+
+def try_audit_lines(index, files):
+    """The lines of an audit name the files too, of verdicts and of faults."""
+    lines = run(index.made.program, ["audit", "--json", "--files-from", "-"], "\0".join(files).encode()).wrote
+    other = Index(index.program, index.made, "from_audit")
+    end = run(other.program, ["archive", "add", other.path, *other.of_system, "--files-from", "-", "--json-lines"], lines)
+    same("lines of an audit", (end.status, lines.count(b"\n"), json.loads(end.wrote)["files"]), (1, len(files), len(set(files))))
 
 
 def rows_of(index):

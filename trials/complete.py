@@ -27,7 +27,6 @@ from scenarios import everybody, scenario_lines, spell_lines
 from tally import Tally
 
 SCRIPT = os.path.join(os.path.dirname(os.path.dirname(os.path.abspath(__file__))), "examples", "archive", "complete.py")
-EACH = os.path.join(os.path.dirname(SCRIPT), "each.py")
 COMMANDS = {"enroll", "identity", "system", "admission", "admit", "bundle", "audit", "show"}
 # So many runs are made of how many levels, where no other numbers are asked for.
 RUNS, LEVELS = 40, 4
@@ -183,8 +182,8 @@ class Case:
         files = sorted(os.path.join(at, name) for at, _, names in os.walk(top) for name in names)
         listed = os.path.join(self.place, "list")
         write(listed, "".join(f"{name}\0" for name in files).encode())
-        env = {**os.environ, "SM_TOOL": self.system.program}
-        write(os.path.join(self.place, "verdicts"), run(sys.executable, ["-B", EACH, listed], env=env).wrote)
+        lines = run(self.system.program, ["audit", "--json", "--files-from", listed]).wrote
+        write(os.path.join(self.place, "verdicts"), lines)
 
     def told(self, *words, env=None):
         """How the script ends."""

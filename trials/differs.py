@@ -9,7 +9,8 @@ whole, cut, lengthened, or have bits turned; their exhibits are moved, doubled o
 others; their logs have changed entries, and are linked and signed anew. Evidence is what `accuse` finds, whole and bent, or is put
 together of pieces of one run or of two. Receipts are of whole and of changed logs, or signed with the keys of a seed; some are bent
 or of another run. `bundle` gets headers and logs, and `answer` evidence made with the keys of the accused, and a log: in files, of
-which some are not there or are standard input. One case in twelve has other words on the command line.
+which some are not there or are standard input. Of a command that answers each of many files, one case in four has many. One case in
+twelve has other words on the command line.
 
 Status, standard output and standard error are compared: of the line of status 2 what the documents fix, of the version the first. A case follows from the seed and its number alone.
 Where the two differ, the input is written into a folder, and the line that shows it is printed.
@@ -43,6 +44,7 @@ from programs import End, commands_of, run, shown
 from reference import answer
 from model import words as named
 from model.bundle import CAMPAIGN_MARK, read_campaign
+from model.command import OF_EACH
 from model.faults import Fault
 from model.receipt import MARKS, read_receipts
 from model.show import shown_runs
@@ -385,6 +387,8 @@ class Cases:
         if command in SEVERAL:
             words = several.CASES[command](draws, self.block, BUNDLES, files)
             return (draw_words(draws, command) if draws.is_one_in(12) else words), files.standard, files
+        if command in OF_EACH and draws.is_one_in(4):
+            return self.of_each(draws, command, files), files.standard, files
         given = INPUTS[command](draws, self.block)
         if draws.is_one_in(12):
             return draw_words(draws, command), given, files
@@ -392,6 +396,13 @@ class Cases:
             return [command, name_to_explain(draws)], given, files
         runs = runs_of(given) if command in WANT_RUNS and draws.below(2) else []
         return [command, *good_options(draws, command, runs), *flag_for(draws, command, given)], given, files
+
+
+    def of_each(self, draws, command, files):
+        """The words of a command with many files."""
+        given, listed = ([INPUTS[command](draws, self.block) for _ in range(draws.below(4))] for _ in range(2))
+        runs = runs_of(draws.one_of(given)) if given and draws.below(2) else []
+        return several.of_each(draws, command, runs, given, listed if draws.below(2) else None, files)
 
 
 # Comparing.

@@ -327,7 +327,7 @@ BAD_WORDS = ["", "x", "decide", "-x", "--capacity", "--workers", "--general", "-
              "--all", "-", "--strict", "--strict=1", "--print-run", "--run", "--run=0", "--run=", "/", "--json",
              "--json=1", "--tall", "--tall=6", "--slot", "--slot=4", "--faulty", "--faulty=", "--faulty=0",
              "--faulty=none", "--faulty=none,1", "--faulty=0,0", "--faulty=16", "--faulty=0,", "--faulty=00",
-             "--faulty=1 ,2", "--receipts", "--receipts=1"]
+             "--faulty=1 ,2", "--receipts", "--receipts=1", "--files-from", "--files-from=", "--files-from=-"]
 BAD_NUMBERS = ["", "00", "01", "+1", "-1", "17", "99", "256", "1x", " 1", "1 ", "1.0", "\uff14", "\u0661",
                "0x1", "9" * 30]
 VERSIONS = [["--version"], ["-V"]]

@@ -54,10 +54,10 @@ case $1 in audit)
 esac
 exec {program} "$@"
 """
-# A program that is killed on each file of one share.
+# A program that is killed on one share, behind the line of its first file.
 KILLED = """#!/bin/sh
 for last; do :; done
-tr "\\0" "\\n" <shares/000003 | grep -qxF -- "$last" && kill -9 $$
+[ "$last" = shares/000003 ] && {program} "$@" | head -n 1 && kill -9 $$
 exec {program} "$@"
 """
 SSHD = """Port {port}
@@ -153,6 +153,11 @@ def make_archive(program, folder):
     write(os.path.join(folder, "no bundle"), b"")
 
 
+def name_of(answer):
+    """The name of the file of an answer."""
+    return answer["name"] if answer["format"] == "fault" else answer["input"]["name"]
+
+
 def wait_for(is_so, seconds=PATIENCE):
     """Whether something comes to be so in time."""
     until = time.monotonic() + seconds
@@ -240,10 +245,10 @@ class Trial:
     def one_call(self):
         """What one call on one machine says of all files."""
         made = self.script("shares.py", self.folder, "job")
-        end = self.script("each.py", self.path("job", "list"), "--strict")
+        end = run(self.program, ["audit", "--json", "--strict", "--files-from", self.path("job", "list")])
         lines = end.wrote.splitlines()
-        odd = {line["file"]: line["status"] for line in map(json.loads, lines) if line["status"]}
-        is_well = odd == {f"{self.folder}/{FORGED}": 1, f"{self.folder}/{JUNK}": 3}
+        odd = {name_of(line): line.get("fault", line.get("verdict")) for line in map(json.loads, lines) if line.get("verdict") != "agreed"}
+        is_well = odd == {f"{self.folder}/{FORGED}": "no", f"{self.folder}/{JUNK}": "fault B2"}
         is_well = is_well and (made.status, end.status, len(lines)) == (0, 3, COPIES * len(NAMES) + 2)
         self.tally.hold("one call", None if is_well else f"{made}, {odd}, {len(lines)} lines, status {end.status}")
         return end.wrote
@@ -382,7 +387,7 @@ class Trial:
     def try_joins(self):
         """Lines that lack, stand twice, or are of no file of the list."""
         lines = self.wanted.splitlines(keepends=True)
-        names = [json.loads(line)["file"] for line in lines]
+        names = [name_of(json.loads(line)) for line in lines]
         for what, told, listed in (("0 lines", lines[1:], names), ("2 lines", [lines[0], *lines], names),
                                    ("not in the list", lines, names[1:])):
             write(self.path("told"), b"".join(told))

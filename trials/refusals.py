@@ -109,6 +109,7 @@ def small_cases(program, folder):
     yield from prepared_cases(program, folder)
     yield from asked_cases(program)
     yield from receipt_cases(program)
+    yield from file_cases(program, folder)
     yield "faulty text", ["decide"], b"generals 2\nedge 0\n"
     yield "no bundle", ["audit"], b"SMB1\x01"
     yield "help", ["--help"], b""
@@ -219,6 +220,39 @@ def prepared_cases(program, folder):
     yield "evidence and no log", ["answer", paths["evidence"], paths["header"]], b""
 
 
+def file_cases(program, folder):
+    """Many files in one call."""
+    bundle = run(program, ["run"], signed()["split"]).wrote
+    evidence = run(program, ["accuse", "--general", "0"], bundle).wrote
+    paths = written_in(folder, {"first": bundle, "second": bundle[:-1], "third": evidence, "list": b"%s/third\0" % folder.encode()})
+    yield "files", ["audit", paths["first"], paths["second"]], b""
+    yield "files", ["audit", "--workers", "3", paths["first"], paths["first"]], b""
+    yield "files and a list", ["show", paths["second"], "--files-from", paths["list"]], b""
+    yield "files and a list", ["evidence", paths["third"], "--files-from", paths["list"]], b""
+
+
+def ends_of_files(program, words):
+    """How a command on many files may end where memory or a thread is refused: of each file as alone, or with the fault; or without
+    more once what names a file could not be written."""
+    names = [word for word in words if "/" in word]
+    if "--files-from" in words:
+        names[1:] = [os.path.join(os.path.dirname(names[0]), "third")]
+    asked = [word for word in words[1:] if "/" not in word and word != "--files-from"]
+    going, ended = [End(0, b"", b"")], []
+    for name in names:
+        alone, more = run(program, [words[0], *asked, name]), []
+        told = b"the fault is in " + name.encode() + b"\n"
+        unnamed = told if alone.status > 1 and alone.said.count(b"\n") == 1 else b""
+        ends = [alone._replace(said=alone.said + unnamed)]
+        ends += [it._replace(said=it.said + behind) for it in (OF_MEMORY, OF_THREADS) for behind in (b"", told)]
+        for before in going:
+            more += [End(max(before.status, it.status), before.wrote + b"file %s\n" % name.encode() + it.wrote, before.said + it.said)
+                     for it in ends]
+            ended += [End(4, before.wrote, before.said + b"memory\n")]
+        going = more
+    return going + ended
+
+
 def large_cases(program, folder):
     """The commands that grow with a run, of 16 generals."""
     text = sixteen()
@@ -251,11 +285,12 @@ def without_object(words, end):
     return end._replace(wrote=b"") if is_same else end
 
 
-def lawful_ends(words, whole, kind):
+def lawful_ends(program, name, words, whole, kind):
     """How a run may end: as without refusals, or for want of a thread or of memory. A thread that gets no memory is one that could
     not be started."""
     of_memory = [OF_MEMORY] + [OF_WORDS] * (words == BAD_WORDS)
-    return [whole, OF_THREADS] + of_memory * (kind == "memory")
+    of_files = ends_of_files(program, words) if name.startswith("files") else []
+    return [whole, OF_THREADS] + of_memory * (kind == "memory") + of_files
 
 
 def trials(program, tally):
@@ -275,6 +310,7 @@ def trials(program, tally):
                     end, was_refused = refused(program, library, words, given, k, number, a)
                     return without_object(words, end), was_refused
 
-                runs, wrong = count_up(call, lawful_ends(words, whole, kind), kind, is_sampled or kind == "memory" and after)
+                lawful = lawful_ends(program, name, words, whole, kind)
+                runs, wrong = count_up(call, lawful, kind, is_sampled or kind == "memory" and after)
                 tally.count(runs + 1)
                 tally.hold(f"{spell(words)}, {name}, {kind}{' from then on' if after else ''}", wrong)

@@ -17,8 +17,8 @@ from programs import Hangs, commands_of
 from tally import Tally
 
 SUBJECTS = ["scripts", "worked", "walk", "campaigns", "pictures", "prefixes", "vectors", "second_answers", "identities", "differs"]
-SUBJECTS += ["json_texts", "costs", "refusals", "slips", "calls", "devices", "load", "engines", "worlds", "embed", "nodes"]
-SUBJECTS += ["node_calls", "system_calls", "receipts", "datagrams", "shown", "power", "system", "complete", "bindings", "watching"]
+SUBJECTS += ["json_texts", "costs", "refusals", "slips", "calls", "devices", "many_files", "load", "engines", "worlds", "embed"]
+SUBJECTS += ["nodes", "node_calls", "system_calls", "receipts", "datagrams", "shown", "power", "system", "complete", "bindings", "watching"]
 SUBJECTS += ["archives", "controllers", "soaking", "units", "page", "release"]
 LIBRARIES = ["worlds", "embed", "nodes", "node_calls", "system_calls", "receipts", "datagrams", "shown", "power", "system", "complete"]
 LIBRARIES += ["bindings", "watching", "archives", "controllers", "soaking", "units", "page", "release"]

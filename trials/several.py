@@ -1,4 +1,5 @@
-"""What `bundle` and `answer` are given, which read several files: words, files and standard input, as they are drawn."""
+"""What `bundle` and `answer` are given, which read several files, and commands that answer each of many: words, files and standard
+input, as they are drawn."""
 import os
 
 from bends import bend_bytes
@@ -163,3 +164,18 @@ def answer_case(draws, block, bundles, files):
 
 
 CASES = {"bundle": bundle_case, "answer": answer_case}
+
+
+# Many files.
+
+
+def of_each(draws, command, runs, givens, listed, files):
+    """The words of a command that answers each of many files: words name some, and a list others, if there is one."""
+    options, names = good_options(draws, command, runs), [files.named(draws, data) for data in givens]
+    names += [draws.one_of(names)] if names and draws.is_one_in(4) else []
+    if listed is not None:
+        some = [files.named(draws, data).encode() for data in listed]
+        some += [draws.one_of([b"-", b"", b"two\nlines", b"\xff"])] if draws.is_one_in(8) else []
+        data = b"\0".join(some) + draws.one_of([b"", b"\0", b"\0\0"])
+        options += [f"--files-from={files.named(draws, data)}"]
+    return [command, *mixed(draws, options, names)]

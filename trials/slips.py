@@ -65,7 +65,7 @@ def cases(program, folder):
     evidence = run(program, ["accuse", "--general", "1"], bundle).wrote
     parts = Bundle(bundle)
     header, log = parts.front[MARK:], parts.exhibits[1][1]
-    files = {"header": header, "log": log, "evidence": evidence}
+    files = {"header": header, "log": log, "evidence": evidence, "bundle": bundle}
     paths = {name: os.path.join(folder, name) for name in files}
     for name, data in files.items():
         with open(paths[name], "wb") as kept:
@@ -84,6 +84,9 @@ def cases(program, folder):
     prepared += [(["bundle", "--faulty", "1", "-", "1=" + paths["log"]], header)]
     prepared += [(["bundle", "--faulty", "1", paths["header"], "1=-"], log), (["answer", paths["evidence"], "-"], log)]
     prepared += [(["answer", "-", paths["log"]], evidence), (["words"], run(program, ["audit"], bundle).wrote)]
+    lists = {"audit": ("bundle", "bundle"), "evidence": ("evidence", "evidence"), "show": ("header", "evidence", "bundle")}
+    for command, names in lists.items():
+        prepared += [([command, "--files-from", "-"], b"".join(paths[name].encode() + b"\0" for name in names))]
     return [*of_text, *of_bundles, *of_evidence, *prepared, *of_systems(program, folder)]
 
 

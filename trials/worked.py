@@ -51,6 +51,7 @@ WORDS = ["", "walk", "decide x y", "explain x y", "decide --workers 1", "run --c
 WORDS += ["run --capacity 01", "run --capacity x", "run --capacity +1", "audit --workers 0", "audit --workers 17"]
 WORDS += ["judge --capacity 1 --workers 0", "judge --capacity 17 --workers 2", "judge --workers 2 --capacity 0"]
 WORDS += ["audit --workers 1 --workers 1", "accuse", "accuse --general 16", "accuse --general -1", "evidence --general 0"]
+WORDS += ["audit - -", "audit --files-from", "show - --files-from -", "evidence --files-from a --files-from a", "draw a b", "judge --files-from a"]
 WORDS += ["receipt", "receipt --general 16", "receipts --general 0", "accuse --receipts", "evidence --receipts"]
 
 

@@ -82,10 +82,12 @@ class Archive:
     def bundles(self):
         """Each file with its run ids and verdicts, or else with why it has none."""
         with open(self.verdicts, "rb") as lines:
-            for told in map(json.loads, lines):
-                answer = told["answer"]
-                runs = [] if told["status"] > 1 else answer.get("runs", [answer])
-                yield told["file"], [(run["run"], run["verdict"]) for run in runs], answer.get("fault")
+            for answer in map(json.loads, lines):
+                if answer["format"] == "fault":
+                    yield answer["name"], [], answer["fault"]
+                    continue
+                runs = [(run["run"], run["verdict"]) for run in answer.get("runs", [answer])]
+                yield answer["input"]["name"], runs, None
 
     # Findings.
 

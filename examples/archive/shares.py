@@ -4,16 +4,14 @@
     shares.py ARCHIVE JOB [FILES]
 
 Bundles are the files below ARCHIVE whose names end in .bundle or .bundles, and no symbolic links. JOB is a folder that is made
-here. It has `list`, the whole names, sorted, with a zero byte behind each, `shares`, of FILES names each, of 100 where no
-number is given, and each.py, which audits a share. A name that is not UTF-8 stands in no share, since sm_tool takes none;
-join.py names it. Status 2: wrong words, no such folder, no bundle in it, or a JOB that is there.
+here. It has `list`, the whole names, sorted, with a zero byte behind each, and `shares`, of FILES names each, of 100 where no
+number is given. A name that is not UTF-8 stands in no share, since sm_tool takes none; join.py names it. Status 2: wrong words,
+no such folder, no bundle in it, or a JOB that is there.
 """
 import os
-import shutil
 import sys
 
 ENDINGS = (b".bundle", b".bundles")
-EACH = os.path.join(os.path.dirname(os.path.abspath(__file__)), "each.py")
 PLACES = ("shares", "todo", "taken", "lost", "lines")
 
 
@@ -42,7 +40,6 @@ def make_job(names, job, most):
     for place in PLACES:
         os.makedirs(os.path.join(job, place))
     write(names, job, "list")
-    shutil.copy(EACH, job)
     names = [name for name in names if is_utf8(name)]
     for share, first in enumerate(range(0, len(names), most)):
         write(names[first : first + most], job, "shares", f"{share:06}")

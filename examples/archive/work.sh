@@ -8,7 +8,7 @@
 # one piece. A share that was taken MINUTES ago, or 10 minutes, and has no lines is lost: it is put back, and is taken anew. The
 # clocks of machines have to agree much better. A share that is audited twice has the same lines. One that was lost three times
 # goes to JOB/lost, so that no file keeps others from being audited. The program is sm_tool on the path, or the one that
-# SM_TOOL names; JOB/each.py runs it. Status 2: there is no such job. Status 3: there is no such program.
+# SM_TOOL names. Status 2: there is no such job. Status 3: there is no such program.
 set -u
 late=${2:-10} mine=$(uname -n).$$
 cd "${1:?usage: work.sh JOB [MINUTES]}" && [ -d todo ] || exit 2
@@ -16,7 +16,7 @@ cd "${1:?usage: work.sh JOB [MINUTES]}" && [ -d todo ] || exit 2
 
 # Audits a share. Its lines count if each file has one.
 audit() {
-    python3 -B each.py "shares/$1" --strict >"part.$1.$mine"
+    "${SM_TOOL:-sm_tool}" audit --json --strict --files-from "shares/$1" >"part.$1.$mine"
     [ "$(wc -l <"part.$1.$mine")" -eq "$(tr -cd '\0' <"shares/$1" | wc -c)" ] && mv "part.$1.$mine" "lines/$1" &&
         rm -f "todo/$1"* "taken/$1"*
 }

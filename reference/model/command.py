@@ -48,14 +48,17 @@ OF_RUNS = ("run", "admission", "system")
 # Of each command what else it takes: of which runs its input has to be, who is held for faulty, a context, a file, and flags.
 TAKES = {
     "decide": ("json",), "run": ("print-run",), "judge": ("strict", "json"), "campaign": ("print-run",),
-    "audit": (*OF_RUNS, "faulty", "strict", "json"), "draw": (*OF_RUNS, "faulty"), "accuse": (*OF_RUNS, "receipts"),
-    "evidence": (*OF_RUNS, "json"), "receipt": OF_RUNS, "receipts": (*OF_RUNS, "json"), "show": (*OF_RUNS, "json"),
+    "audit": (*OF_RUNS, "faulty", "strict", "json", "files-from"), "draw": (*OF_RUNS, "faulty"),
+    "accuse": (*OF_RUNS, "receipts"), "evidence": (*OF_RUNS, "json", "files-from"), "receipt": OF_RUNS,
+    "receipts": (*OF_RUNS, "json"), "show": (*OF_RUNS, "json", "files-from"),
     "root": ("tall",), "header": ("print-run",), "bundle": ("faulty",), "enroll": ("tall", "resume"),
     "system": ("context", "turns", "tall", "print-id"), "admission": ("print-id",), "admit": ("print-id",),
 }
 FLAGS = ("strict", "print-run", "json", "tall", "receipts", "turns", "print-id")
 # The commands of several files: how many words for files they take, at least and at most.
 FILES = {"bundle": (1, None), "answer": (2, 2), "admission": (1, None)}
+# The commands that answer each of many files alone.
+OF_EACH = ("audit", "show", "evidence")
 # Of the commands that take words with the number of a general: the form of these, and what the first word is.
 LISTED = {"bundle": ("G=LOG", "header"), "admission": ("G=ROOTS", "system")}
 # The commands whose output is bytes.
@@ -69,6 +72,9 @@ REQUIRED = {"accuse": ("general",), "receipt": ("general",), "enroll": ("levels"
 OF_SYSTEMS = ("enroll", "identity", "system", "admission", "admit")
 MOST_RUNS = 4
 Answer = Tuple[int, bytes, bytes]
+# The name of a file. Standard input has none.
+Source = Optional[str]
+STANDARD: Source = None
 
 
 class Refused(Exception):
@@ -88,27 +94,38 @@ class Job:
     runs: Optional[List[bytes]] = None
     faulty: Optional[Tuple[int, ...]] = None
     flags: Tuple[str, ...] = ()
-    files: Tuple[str, ...] = ()
+    # The files of the words, and of `explain` its name.
+    files: Tuple[Source, ...] = ()
     # Of `bundle` and `admission` the general of each file behind the first.
     generals: Tuple[int, ...] = ()
     # Of `system` what the users agree on.
     context: bytes = b""
     # Of `enroll` the file that the roots begin with.
-    resume: Optional[str] = None
+    resume: Tuple[Source, ...] = ()
     # The file with the admission of whose runs the input has to be, and the system id that the admission has to be of.
-    admission: Optional[str] = None
+    admission: Tuple[Source, ...] = ()
     system: Optional[bytes] = None
+    # The file with the names of more files.
+    listed: Tuple[Source, ...] = ()
 
-    def sources(self) -> Tuple[str, ...]:
-        """The files that are read, in this order; `-` is standard input (COMMANDS.md#words)."""
+    def sources(self) -> Tuple[Source, ...]:
+        """The files that are read, in this order (COMMANDS.md#words)."""
         if self.command == "explain":
             return ()
-        before, behind = (() if it is None else (it,) for it in (self.admission, self.resume))
-        return before + (self.files or ("-",)) + behind
+        return self.admission + (self.files or (STANDARD,)) + self.resume
 
-    def name(self) -> Optional[str]:
+    def is_of_each(self) -> bool:
+        """Whether each of many files is answered alone (COMMANDS.md#many-files)."""
+        return self.command in OF_EACH and (len(self.files) > 1 or bool(self.listed))
+
+    def standing_twice(self) -> bool:
+        """Whether standard input stands for two files (COMMANDS.md#words)."""
+        given = self.listed + self.admission + self.files if self.is_of_each() else self.sources()
+        return given.count(STANDARD) > 1
+
+    def name(self) -> Source:
         """The name of the file of the one input; standard input has none (FORMATS.md#where-an-answer-comes-from)."""
-        return next((name for name in self.files[:1] if name != "-"), None)
+        return next(iter(self.files), STANDARD)
 
     def reads(self) -> str:
         """The command whose inputs this one reads."""
@@ -116,7 +133,7 @@ class Job:
 
     def asking(self, place: int) -> Job:
         """What asks for the source at a place: for an admission it asks for no JSON (COMMANDS.md#exit-status)."""
-        return replace(self, flags=()) if self.admission is not None and place == 0 else self
+        return replace(self, flags=()) if self.admission and place == 0 else self
 
 
 def _number_in(value: str, least: int, most: int) -> Optional[int]:
@@ -191,7 +208,7 @@ class Given:
 
     def take_file(self, command: str, word: str) -> None:
         """A word that is no option."""
-        most = FILES.get(command, (0, 1))[1]
+        most = None if command in OF_EACH else FILES.get(command, (0, 1))[1]
         if len(self.files) == most:
             raise Refused(f"{word!r} stands behind a file")
         self.files.append(word)
@@ -247,6 +264,11 @@ def _generals(command: str, files: List[str]) -> Tuple[int, ...]:
     return tuple(generals)
 
 
+def _sources(command: str, words: Sequence[str]) -> Tuple[Source, ...]:
+    """The files that words name; `-` is standard input, but for the name that is explained (COMMANDS.md#words)."""
+    return tuple(STANDARD if word == "-" and command != "explain" else word for word in words)
+
+
 def _check_given(command: str, given: Given) -> None:
     """No option is missing that a command requires, and no file."""
     for option in REQUIRED.get(command, ()):
@@ -280,11 +302,13 @@ def read_words(words: List[str]) -> Job:
     faulty = _faulty(given.options["faulty"]) if "faulty" in given.options else None
     context = _digits("context", given.options) or b""
     generals = _generals(words[0], given.files)
-    system, admission = _system(given.options), given.options.get("admission")
-    job = Job(words[0], numbers, runs, faulty, tuple(given.flags), tuple(given.files), generals, context,
-              given.options.get("resume"), admission, system)
-    if job.sources().count("-") > 1:
-        raise Refused("standard input stands twice")
+    files = _sources(words[0], given.files)
+    resume, admission, listed = (_sources(words[0], [given.options[option]] if option in given.options else [])
+                                 for option in ("resume", "admission", "files-from"))
+    job = Job(words[0], numbers, runs, faulty, tuple(given.flags), files, generals, context, resume, admission,
+              _system(given.options), listed)
+    if job.standing_twice():
+        raise Refused("'-' stands for one file at most")
     return job
 
 
@@ -446,7 +470,7 @@ def show(given: bytes, job: Job) -> Tuple[int, bytes]:
 
 def explain_name(job: Job) -> Tuple[int, bytes]:
     """The command explain (FORMATS.md#words)."""
-    told = explain(os.fsencode(job.files[0]) if job.files else b"")
+    told = explain(os.fsencode(job.files[0] or "") if job.files else b"")
     return (1, b"") if told is None else (0, told)
 
 
@@ -575,15 +599,17 @@ WITHIN = {"bundle": {"B3": (0, "header"), "B8": (0, "header")}, "answer": {"V": 
 ESCAPES = {"\t": "\\t", "\r": "\\r", "\n": "\\n", "'": "\\'", '"': '\\"', "\\": "\\\\"}
 
 
-def called(name: str) -> str:
+def called(name: Source) -> str:
     """What a file is called in a line (COMMANDS.md#exit-status)."""
+    if name is STANDARD:
+        return "standard input"
     if not any(letter < " " or letter == "\x7f" for letter in name):
-        return "standard input" if name == "-" else name
+        return name
     code = lambda letter: f"\\u{{{ord(letter):x}}}" if letter < " " or letter == "\x7f" else letter
     return "".join(ESCAPES.get(letter) or code(letter) for letter in name)
 
 
-def kind_line(name: str, given: bytes, reads: Sequence[str]) -> str:
+def kind_line(name: Source, given: bytes, reads: Sequence[str]) -> str:
     """The line that says of which other kind an input is than those that are read, if it is (COMMANDS.md#exit-status)."""
     kind = json_text.kind_of(given)
     if kind is None or kind in reads:
@@ -602,7 +628,7 @@ def line_behind(job: Job, inputs: Sequence[bytes], words: str) -> str:
     for begins, (place, kind) in WITHIN[job.command].items():
         if words.startswith(begins):
             name = job.sources()[place]
-            return kind_line(name, inputs[place], (kind,)) or f"the fault is in {name if name == '-' else called(name)}\n"
+            return kind_line(name, inputs[place], (kind,)) or f"the fault is in {'-' if name is STANDARD else called(name)}\n"
     return ""
 
 
@@ -615,17 +641,14 @@ def failed(job: Job, status: int, line: str, behind: str, front: bytes) -> Answe
     return status, json_text.line_of(value) if "json" in job.flags else b"", f"{line}\n{behind}".encode("utf-8")
 
 
-def not_read(job: Job, name: str, reason: str, front: bytes = b"") -> Answer:
+def not_read(job: Job, name: Source, reason: str, front: bytes = b"") -> Answer:
     """The answer where an input can't be read, for a reason (COMMANDS.md#exit-status)."""
     return failed(job, 5, "read failed", f"cannot read {called(name)}: {reason}\n", front)
 
 
 def answer_job(job: Job, inputs: Sequence[bytes]) -> Answer:
     """The status, the output and the error of a job on its inputs (COMMANDS.md#exit-status)."""
-    for place, (name, given) in enumerate(zip(job.sources(), inputs)):
-        if len(given) > LONGEST_INPUT:
-            return not_read(job.asking(place), name, f"it has more than {LONGEST_INPUT} bytes", given)
-    if job.admission is not None:
+    if job.admission:
         return answer_admitted(job, *inputs)
     try:
         status, output = COMMANDS[job.command](*inputs, job=job)
@@ -651,7 +674,7 @@ def answer_admitted(job: Job, shown: bytes, given: bytes) -> Answer:
     ids = _read_runs(given, job)
     runs = [run for run in admission.runs() if admission.header_of(run).run_id in ids]
     asked = ids if 0 < len(ids) == len(runs) else [admission.header_of(admission.runs()[0]).run_id]
-    status, output, said = answer_job(replace(job, runs=asked, admission=None), [given])
+    status, output, said = answer_job(replace(job, runs=asked, admission=()), [given])
     return (status, output, said) if status > 1 else (status, *_told_beside(job, admission, runs, output, said))
 
 

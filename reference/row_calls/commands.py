@@ -37,6 +37,8 @@ def asked_text(row: Row) -> str:
     told: List[str] = [job.command, *(flag for flag in job.flags if flag == "receipts")]
     for option in OPTIONS[job.command]:
         told += [option, str(job.numbers.get(option, DEFAULTS.get(option, 1)))]
+    if job.is_of_each():
+        told += ["files", str(len(job.files)), "list" if job.listed else "no list"]
     return " ".join(told)
 
 

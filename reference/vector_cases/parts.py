@@ -58,7 +58,7 @@ def answer_of(vector: Vector) -> Tuple[int, bytes, bytes]:
     job = job_asked(vector["words"])
     if not files or job is None:
         return sm.answer(vector["words"], bytes_of(vector))
-    return answer_job(job, [files[name] for name in job.sources()])
+    return answer_job(job, [files["-" if name is None else name] for name in job.sources()])
 
 
 def output_of(piece: Vector) -> bytes:

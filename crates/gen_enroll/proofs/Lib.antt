@@ -1,3 +1,4 @@
 pub mod Cutting
+pub mod Found
 pub mod Pieces
 pub mod Spelled

@@ -4,3 +4,4 @@ pub mod Loops
 pub mod Pieces
 pub mod RootFiles
 pub mod RootReading
+pub mod Taking

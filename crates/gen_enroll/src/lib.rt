@@ -1,7 +1,7 @@
 //! Enrolment of a node: the roots of all its sets of keys, made by several workers, and the public file of them.
 //!
 //! An identity stands for 2 to the power of its levels sets of keys. To know it, the tree of each set has to be made
-//! once, which takes nearly all the time. So the sets are dealt to workers, and the roots can be made in pieces: a
+//! once, which takes nearly all the time. So workers take the sets one by one, and the roots can be made in pieces: a
 //! piece begins at any state of the secret. The file of roots is public. Whoever has it makes the identity and the
 //! opening of any set, and hashes no key.
 //!
@@ -20,6 +20,7 @@ mod root_files;
 mod root_reading;
 mod roots_fault;
 pub mod sizes;
+mod taking;
 
 pub use cut_files::roots_in;
 pub use heads::RootsHead;

@@ -1,20 +1,20 @@
 //! Makes the roots of sets, by several workers.
-ghost use Rattle.std.specs.Prelude.{ℕ, ◌≡◌, ◌≤◌, ◌<◌, ◌++◌, List, IfOk, OnOk};
+ghost use Rattle.std.specs.Prelude.{◌≡◌, ◌≤◌, ◌<◌, ◌++◌, IfOk, OnOk};
 ghost use Rattle.gen_identity.specs.Sets.{set_roots, identity_over, identity_of_secret};
 ghost use Rattle.gen_enroll.specs.RootFiles.{file_of_secret};
-ghost use Rattle.gen_enroll.specs.Loops.{AreShares, bound_of, share_of};
+ghost use Rattle.gen_enroll.specs.Loops.{set_seeds};
 
 use crate::heads::sets_on;
 use crate::root_files::Roots;
+use crate::taking::append_roots_of_seeds;
 use gen_identity::State;
 use gen_identity::sizes::MOST_LEVELS;
 use gen_tree::KeyTree;
 use gen_types::TreeHeight;
 use std::alloc::{AllocError, Global};
-use std::thread;
 use std::thread::Threads;
 
-/// The most sets that a worker makes before the roots of all workers are joined.
+/// The most sets whose roots are made before the workers are joined.
 const SETS_A_TURN: u32 = 4096;
 
 /// Returns the roots of `count` sets, that of the state first, whose trees have this height. It makes the tree of each
@@ -41,68 +41,18 @@ pub fn roots_of_next_sets(
     Ok(roots)
 }
 
-/// Returns the number of sets before those of a worker, if `count` sets are dealt to so many workers. Each worker gets
-/// as many as each other, or one more.
-fn first_of(count: u32, workers: u8, worker: u8) -> u32
-    requires some { 0 < workers }
-    requires worker { worker ≤ workers }
-    ensures { result ≡ bound_of count workers worker }
+/// Returns the seeds of `count` sets, that of the state first.
+fn seeds_of(alloc: Global, state: &[u8; 32], count: u32) -> Result<Vec<[u8; 32]>, AllocError>
+    ensures { IfOk result (λ seeds. seeds.items ≡ set_seeds state.now count) }
 {
-    (u64::from(count) * u64::from(worker) / u64::from(workers)) as u32
-}
-
-/// Returns the roots of the sets of one worker, if `count` sets from the state on are dealt to so many workers.
-fn roots_of_worker(
-    alloc: Global,
-    state: &[u8; 32],
-    height: TreeHeight,
-    count: u32,
-    workers: u8,
-    worker: u8,
-) -> Result<Vec<[u8; 32]>, AllocError>
-    requires { worker < workers }
-    ensures { IfOk result (λ roots. roots.items ≡ share_of state.now height count workers worker) }
-{
-    let first = first_of(count, workers, worker);
-    let end = first_of(count, workers, worker + 1);
-    let own = State::new(*state).advance(first);
-    roots_of_next_sets(alloc, own, height, end - first)
-}
-
-/// Returns the roots of the sets of each worker, made by the workers side by side.
-fn shares<R: Threads + Sync>(
-    rt: &R,
-    alloc: Global,
-    state: &[u8; 32],
-    height: TreeHeight,
-    count: u32,
-    workers: u8,
-) -> Result<Vec<Result<Vec<[u8; 32]>, AllocError>>, AllocError>
-    ensures { IfOk result (λ all. AreShares state.now height count workers all.items) }
-{
-    thread::map_indices(
-        rt,
-        alloc,
-        usize::from(workers),
-        &move |worker: usize| -> Result<Vec<[u8; 32]>, AllocError>
-            requires { worker < workers }
-            ensures { IfOk result (λ roots. roots.items ≡ share_of state.entry.now height count workers worker) }
-        { roots_of_worker(alloc, state, height, count, workers, worker as u8) },
-    )
-}
-
-/// Appends the roots of one worker.
-fn append_share(
-    share: &Result<Vec<[u8; 32]>, AllocError>,
-    roots: &mut Vec<[u8; 32]>,
-) -> Result<(), AllocError>
-    ensures { (own : List (List ℕ)) → IfOk share.now (λ s. s.items ≡ own)
-        → OnOk result (roots.new.items ≡ roots.old.items ++ own) }
-{
-    match share {
-        Ok(own) => roots.extend_from_slice(own.as_slice()),
-        Err(refused) => Err(*refused),
+    let mut seeds = Vec::with_capacity(alloc, count as usize)?;
+    let mut next = State::new(*state);
+    'sets: for _ in 0..count {
+        let (seed, after) = next.step();
+        seeds.push(seed)?;
+        next = after;
     }
+    Ok(seeds)
 }
 
 /// Appends the roots of `count` sets, that of the state first, which are made by the workers side by side.
@@ -115,20 +65,17 @@ fn append_turn<R: Threads + Sync>(
     workers: u8,
     roots: &mut Vec<[u8; 32]>,
 ) -> Result<(), AllocError>
-    requires { 0 < workers }
     ensures { OnOk result (roots.new.items ≡ roots.old.items ++ set_roots state.now height count) }
 {
-    let all = shares(rt, alloc, state, height, count, workers)?;
-    'workers: for worker in 0..workers {
-        append_share(&all[usize::from(worker)], roots)?;
-    }
-    Ok(())
+    let seeds = seeds_of(alloc, state, count)?;
+    append_roots_of_seeds(rt, alloc, &seeds, height, workers, roots)
 }
 
 /// Returns the roots of `count` sets, that of the state first, whose trees have this height. They are the same whatever
-/// the number of workers. The workers make trees side by side, each those of as many sets as each other worker or one
-/// more, up to 4,096 at a time. One of them works in the calling thread, each other in a thread of its own where one can
-/// be started, and one alone starts none. Beside the roots each worker holds those of its sets at a time and one tree.
+/// the number of workers. The workers make trees side by side: each takes the next set that none took, of up to 4,096 at
+/// a time, so none waits for a slower one but for its last tree. One of them works in the calling thread, each other in a
+/// thread of its own where one can be started, and one alone starts none. Beside the roots less than a megabyte is held,
+/// and one tree for each worker.
 ///
 /// So a long run can be made in pieces: the next piece begins at the state that stands `count` steps behind this one.
 ///
@@ -147,11 +94,10 @@ pub fn roots_of_sets<R: Threads + Sync>(
     ensures { IfOk result (λ roots. roots.items ≡ set_roots state.now height count) }
 {
     let mut roots = Vec::with_capacity(alloc, count as usize)?;
-    let most = SETS_A_TURN * u32::from(workers);
     let mut next = State::new(*state.as_bytes());
     let mut left = count;
     'turns: while left > 0 {
-        let turn = left.min(most);
+        let turn = left.min(SETS_A_TURN);
         append_turn(
             rt,
             alloc,

@@ -6,14 +6,11 @@ ghost use Rattle.gen_jobs.specs.Jobs.{JobAnswers, JobFails};
 ghost use Rattle.gen_program.specs.Admitting.{input_runs, job_asked, tells_beside, with_runs};
 ghost use Rattle.gen_program.specs.Refusal.{IsStatus};
 
+use crate::asking::{Admission, Asking};
 use crate::details::{STANDARD_INPUT, Seen};
-use crate::ends::{fail_with, finish_seen, finish_unopened};
+use crate::ends::{Ended, finish_seen};
 use crate::kinds::answers_in_json;
-use crate::program::{refuse_terminal, writes_bytes};
-use crate::reading::{Failure, read_file, tell_waiting};
-use crate::sources::{Source, source_of};
 use crate::systems::fail_enrolling;
-use crate::terminals::Terminals;
 use crate::watching::{WatchedReader, WatchedWriter};
 use gen_asked::{Asked, AskedRuns, Form, Job};
 use gen_campaign::file_runs;
@@ -23,12 +20,9 @@ use gen_enrolling::{
 use gen_jobs::{JobEnd, JobFault, Output, answer, deliver, read_all};
 use gen_receipt::read_receipts;
 use gen_types::ReadError;
-use gen_words::Admitting;
 use std::alloc::{AllocError, Global};
-use std::fs::File;
 use std::io;
 use std::io::Read;
-use std::rt::Files;
 use std::sync::Wait;
 use std::thread::Threads;
 
@@ -219,26 +213,29 @@ fn write_told<R: AllocGlobal + Eprint + Threads + Wait + Sync, W: io::Write>(
 }
 
 /// Does a job from a reader, whose file has this name if it has one, to standard output. Its input must be of runs that the
-/// admission of these bytes admits, which must be of this system, if one is named. Returns the exit status.
-fn finish_input<R: AllocGlobal + Print + Eprint + Threads + Wait + Sync, S: Read>(
+/// admission admits. Returns how it ended.
+pub(crate) fn finish_admitted<R: AllocGlobal + Print + Eprint + Threads + Wait + Sync, S: Read>(
     rt: &R,
-    job: &Job,
+    asking: &Asking<'_>,
+    admission: &Admission<'_>,
     name: Option<&str>,
     reader: &mut S,
-    admission: &[u8],
-    system: Option<&[u8; 32]>,
-) -> u8
-    requires { IsInRange job.now }
-    ensures { IsStatus result }
+) -> Ended
+    requires { IsInRange asking.now.job.now }
+    ensures { IsStatus result.status }
 {
     let mut output = io::writer(rt);
     let mut reader = WatchedReader::new(reader);
     let mut writer = WatchedWriter::new(&mut output);
     let end = match read_all(rt.alloc(), &mut reader) {
-        Ok(input) => match runs_admitted(rt.alloc(), system, admission) {
-            Ok(mut admitted) => write_told(rt, job, name, &mut admitted, input, &mut writer),
+        Ok(input) => match runs_admitted(rt.alloc(), admission.system, admission.bytes) {
+            Ok(mut admitted) => {
+                write_told(rt, asking.job, name, &mut admitted, input, &mut writer)
+            }
             Err(ReadError::Memory) => JobEnd::Failed(JobFault::Memory),
-            Err(ReadError::Fault(fault)) => return fail_enrolling(rt, EnrollError::Fault(fault)),
+            Err(ReadError::Fault(fault)) => {
+                return Ended::with(fail_enrolling(rt, EnrollError::Fault(fault)));
+            }
         },
         Err(fault) => JobEnd::Failed(fault),
     };
@@ -248,33 +245,5 @@ fn finish_input<R: AllocGlobal + Print + Eprint + Threads + Wait + Sync, S: Read
         read: reader.failure,
         write: writer.failure,
     };
-    finish_seen(rt, job, name, end, &seen)
-}
-
-/// Does a job whose input must be of runs that an admission admits, and returns the exit status: of the job's end, that for a
-/// fault of the admission, or that for words if bytes would go to a terminal.
-pub(crate) fn finish_admitted<
-    R: Files + Terminals + AllocGlobal + Input + Print + Eprint + Threads + Wait + Sync,
->(rt: &R, job: &Job, file: Option<&str>, admitting: &Admitting<'_>) -> u8
-    requires { IsInRange job.now }
-    ensures { IsStatus result }
-{
-    if writes_bytes(job) && rt.writes_terminal() {
-        return refuse_terminal(rt);
-    }
-    let admission = match read_file(rt, admitting.admission) {
-        Ok(admission) => admission,
-        Err(failure) => return fail_with(rt, &failure),
-    };
-    let system = admitting.system.as_ref();
-    match source_of(file) {
-        Source::Standard => {
-            tell_waiting(rt);
-            finish_input(rt, job, None, &mut rt.reader(), &admission, system)
-        }
-        Source::Named(name) => match File::open(rt, name) {
-            Ok(mut file) => finish_input(rt, job, Some(name), &mut file, &admission, system),
-            Err(error) => finish_unopened(rt, job, name, error),
-        },
-    }
+    finish_seen(rt, asking, name, end, &seen)
 }

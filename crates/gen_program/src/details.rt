@@ -119,7 +119,7 @@ pub(crate) fn detail_of<'a>(job: &Job, fault: JobFault, seen: &Seen<'a>) -> Opti
 
 /// The name of a file in a line. A name with a character that would end the line or hide some of it has escapes.
 #[derive(Clone, Copy)]
-struct FileName<'a>(&'a str);
+pub(crate) struct FileName<'a>(pub(crate) &'a str);
 
 impl<'a> Display for FileName<'a> {
     fn fmt<W: fmt::Write>(&self, f: &mut Formatter<W>) -> fmt::Result {

@@ -3,6 +3,7 @@ ghost use Rattle.std.specs.Prelude.{◌≡◌};
 ghost use Rattle.gen_ends.specs.Ends.{status_of};
 ghost use Rattle.gen_ends.specs.declared.ends.JobEnd.{JobEnd};
 
+use crate::asking::Asking;
 use crate::details::{Detail, Seen, detail_of};
 use crate::kinds::answers_in_json;
 use crate::reading::Failure;
@@ -37,24 +38,52 @@ fn write_fault<R: AllocGlobal + Print>(rt: &R, fault: JobFault, name: Option<&st
     }
 }
 
-/// Tells how a job ended of which this was seen, and returns the exit status of its end.
+/// How the answer to an input ended.
+#[derive(Clone, Copy)]
+pub(crate) struct Ended {
+    /// The exit status.
+    pub(crate) status: u8,
+    /// Whether the answer could not be written, so that no further one can.
+    pub(crate) is_last: bool,
+}
+
+impl Ended {
+    /// Returns the end with this status, behind which another answer can be written.
+    pub(crate) fn with(status: u8) -> Ended
+        ensures { result.status ≡ status }
+    {
+        Ended {
+            status,
+            is_last: false,
+        }
+    }
+}
+
+/// Tells how a job ended of which this was seen. Of one of several inputs that has a fault, some line names the file.
 pub(crate) fn finish_seen<R: AllocGlobal + Print + Eprint>(
     rt: &R,
-    job: &Job,
+    asking: &Asking<'_>,
     name: Option<&str>,
     end: JobEnd,
     seen: &Seen<'_>,
-) -> u8
-    ensures { result ≡ status_of end }
+) -> Ended
+    ensures { result.status ≡ status_of end }
 {
+    let job = asking.job;
     let Some(fault) = end.fault() else {
-        return end_with(rt, end, None);
+        return Ended::with(end_with(rt, end, None));
     };
+    let is_last = fault == JobFault::Write;
     // Some of the output may be written where a write failed.
-    if answers_in_json(job) && fault != JobFault::Write {
+    if answers_in_json(job) && !is_last {
         write_fault(rt, fault, name, seen.front);
     }
-    end_with(rt, end, detail_of(job, fault, seen))
+    let detail = match detail_of(job, fault, seen) {
+        None if asking.is_of_several => Some(Detail::Within { file: seen.file }),
+        detail => detail,
+    };
+    let status = end_with(rt, end, detail);
+    Ended { status, is_last }
 }
 
 /// Tells why the file of a job was not opened, and returns the exit status.

@@ -6,10 +6,13 @@
 #![tactic(auto)]
 
 mod admitting;
+mod answering;
+mod asking;
 mod built;
 mod details;
 mod ends;
 mod kinds;
+mod many;
 mod naming;
 mod program;
 mod progress;

@@ -1,31 +1,28 @@
 //! The program: from its words to its exit status.
 ghost use Rattle.std.specs.Prelude.{◌≡◌, IfOk, map, string_bytes};
-ghost use Rattle.gen_ends.specs.Ends.{status_of};
 ghost use Rattle.gen_asked.specs.Ranges.{IsInRange};
-ghost use Rattle.gen_ends.specs.declared.ends.JobEnd.{JobEnd};
 ghost use Rattle.gen_program.specs.Refusal.{IsStatus, Refuses};
 ghost use Rattle.gen_program.specs.Sources.{writes_bytes};
 
-use crate::admitting::finish_admitted;
+use crate::answering::{finish_over, finish_source};
+use crate::asking::{Admission, Asking};
 use crate::built::Built;
-use crate::details::{Detail, STANDARD_INPUT, Seen};
-use crate::ends::{end_with, end_written, fail_with, finish_seen, finish_unopened};
-use crate::naming::do_and_tell;
-use crate::reading::{answer_files, join_files, tell_waiting};
-use crate::sources::{Source, source_of};
+use crate::details::Detail;
+use crate::ends::{end_with, end_written, fail_with};
+use crate::many::finish_listing;
+use crate::reading::{answer_files, join_files, read_file};
+use crate::sources::source_of;
 use crate::systems::finish_systems;
 use crate::terminals::Terminals;
-use crate::watching::{WatchedReader, WatchedWriter};
+use crate::watching::WatchedWriter;
 use clap::error::ErrorKind;
 use gen_asked::{Job, Telling};
-use gen_jobs::{JobEnd, JobFault, deliver, deliver_bundle, do_job};
+use gen_jobs::{JobEnd, JobFault, deliver, deliver_bundle};
 use gen_words::{
-    Request, Several, WordsFault, fault_line, given_value, read_admitting, read_request,
-    read_several, read_systems, show_usage,
+    Listing, Request, Several, WordsFault, fault_line, given_value, read_admitting, read_listing,
+    read_request, read_several, read_systems, show_usage,
 };
 use std::alloc::{AllocError, Global};
-use std::fs::File;
-use std::io::Read;
 use std::rt::{Env, Files};
 use std::sync::Wait;
 use std::thread::Threads;
@@ -86,14 +83,17 @@ fn answer<R: Files + Terminals + AllocGlobal + Input + Print + Eprint + Threads 
     }
 }
 
-/// Does what words ask for that name one file at most, and returns the exit status.
+/// Does what words ask for that name inputs of a job, and returns the exit status.
 fn answer_request<
     R: Files + Terminals + AllocGlobal + Input + Print + Eprint + Threads + Wait + Sync,
 >(rt: &R, words: &[&str], built: &Built<'_>) -> u8
     ensures { IsStatus result }
 {
     match read_request(rt.alloc(), words) {
-        Ok(request) => finish_request(rt, words, &request, built),
+        Ok(request) => match finish_request(rt, words, &request) {
+            Ok(status) => status,
+            Err(fault) => refuse(rt, &fault, None, built),
+        },
         Err(fault) => {
             if words.len() < 2 {
                 show_usage(rt);
@@ -103,17 +103,36 @@ fn answer_request<
     }
 }
 
-/// Does what words ask for, of runs that an admission admits if they name one, and returns the exit status.
+/// Does what words ask for, of the files that they name, and returns the exit status: of the job's end, the greatest of
+/// several ends, or that for words if bytes would go to a terminal.
+///
+/// # Errors
+///
+/// Those of `read_admitting` and of `read_listing`, and `NotText` if a list of names is not UTF-8.
 fn finish_request<
     R: Files + Terminals + AllocGlobal + Input + Print + Eprint + Threads + Wait + Sync,
->(rt: &R, words: &[&str], request: &Request<'_>, built: &Built<'_>) -> u8
+>(rt: &R, words: &[&str], request: &Request<'_>) -> Result<u8, WordsFault>
     requires { IsInRange request.now.job }
-    ensures { IsStatus result }
+    ensures { IfOk result IsStatus }
 {
-    match read_admitting(rt.alloc(), words) {
-        Ok(Some(admitting)) => finish_admitted(rt, &request.job, request.file, &admitting),
-        Ok(None) => finish(rt, &request.job, request.file, request.prints_runs),
-        Err(fault) => refuse(rt, &fault, None, built),
+    let admitting = read_admitting(rt.alloc(), words)?;
+    let listing = read_listing(rt.alloc(), words)?;
+    let job = &request.job;
+    if writes_bytes(job) && rt.writes_terminal() {
+        return Ok(refuse_terminal(rt));
+    }
+    let Some(admitting) = admitting else {
+        return finish(rt, request, None, listing.as_ref());
+    };
+    match read_file(rt, admitting.admission) {
+        Ok(bytes) => {
+            let admission = Admission {
+                bytes: &bytes,
+                system: admitting.system.as_ref(),
+            };
+            finish(rt, request, Some(admission), listing.as_ref())
+        }
+        Err(failure) => Ok(fail_with(rt, &failure)),
     }
 }
 
@@ -167,40 +186,41 @@ fn finish_several<R: Files + Terminals + AllocGlobal + Input + Print + Eprint>(
     }
 }
 
-/// Does what is asked for, and returns the exit status: of the job's end, or that for words if bytes would go to a
-/// terminal.
+/// Does what is asked of the files that words name, and returns the exit status: of the job's end, or the greatest of several
+/// ends.
+///
+/// # Errors
+///
+/// `NotText` if a list of names is not UTF-8. `Memory` if memory was refused.
 fn finish<R: Files + Terminals + AllocGlobal + Input + Print + Eprint + Threads + Wait + Sync>(
     rt: &R,
-    job: &Job,
-    file: Option<&str>,
-    prints_runs: bool,
-) -> u8
-    requires { IsInRange job.now }
-    ensures { IsStatus result }
+    request: &Request<'_>,
+    admission: Option<Admission<'_>>,
+    listing: Option<&Listing<'_>>,
+) -> Result<u8, WordsFault>
+    requires { IsInRange request.now.job }
+    ensures { IfOk result IsStatus }
 {
-    if writes_bytes(job) && rt.writes_terminal() {
-        return refuse_terminal(rt);
+    let asking = Asking {
+        job: &request.job,
+        admission,
+        prints_runs: request.prints_runs,
+        is_of_several: listing.is_some(),
+    };
+    if let Some(listing) = listing {
+        return finish_listing(rt, &asking, listing);
     }
     // A name that is told stands in the place of a file.
     if matches!(
-        job,
+        request.job,
         Job::Tell {
             what: Telling::Name
         }
     ) {
-        let mut name = file.unwrap_or("").as_bytes();
-        return finish_over(rt, job, None, &mut name, false);
+        let mut name = request.file.unwrap_or("").as_bytes();
+        return Ok(finish_over(rt, &asking, None, &mut name).status);
     }
-    match source_of(file) {
-        Source::Standard => {
-            tell_waiting(rt);
-            finish_over(rt, job, None, &mut rt.reader(), prints_runs)
-        }
-        Source::Named(name) => match File::open(rt, name) {
-            Ok(mut file) => finish_over(rt, job, Some(name), &mut file, prints_runs),
-            Err(error) => finish_unopened(rt, job, name, error),
-        },
-    }
+    Ok(finish_source(rt, &asking, source_of(request.file)).status)
 }
 
 /// Returns whether a job writes bytes, and no text.
@@ -224,35 +244,6 @@ pub(crate) fn writes_bytes(job: &Job) -> bool
         | Job::Header { version: _ } => true,
         _ => false,
     }
-}
-
-/// Does a job from a reader to standard output, and returns the exit status of its end. The reader's file has this name,
-/// if it has one.
-fn finish_over<R: AllocGlobal + Print + Eprint + Threads + Wait + Sync, S: Read>(
-    rt: &R,
-    job: &Job,
-    name: Option<&str>,
-    reader: &mut S,
-    prints_runs: bool,
-) -> u8
-    requires { IsInRange job.now }
-    ensures { (end : JobEnd) × (result ≡ status_of end) }
-{
-    let mut output = io::writer(rt);
-    let mut reader = WatchedReader::new(reader);
-    let mut writer = WatchedWriter::new(&mut output);
-    let end = if prints_runs || matches!(job, Job::Header { version: _ }) {
-        do_and_tell(rt, job, prints_runs, &mut reader, &mut writer)
-    } else {
-        do_job(rt, rt.alloc(), *job, name, &mut reader, &mut writer)
-    };
-    let seen = Seen {
-        file: name.unwrap_or(STANDARD_INPUT),
-        front: reader.front.as_slice(),
-        read: reader.failure,
-        write: writer.failure,
-    };
-    finish_seen(rt, job, name, end, &seen)
 }
 
 /// Writes the help, or the version with what the program was built of behind it, to standard output.

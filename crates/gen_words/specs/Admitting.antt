@@ -19,9 +19,12 @@ system_word rows = first_of (codes "system") rows
 abbrev pub run_word : List Row → Option Text
 run_word rows = first_of (codes "run") rows
 
--- the word for the file of the input, which is a minus where no word names it
+-- the word for the first file that is read beside the admission: that of the input, or else of a list of
+-- names; it is a minus where no word names either
 abbrev pub input_word : List Row → Text
-input_word rows = unwrap_or (first_of (codes "file") rows) (codes "-")
+input_word rows =
+    unwrap_or (first_of (codes "file") rows)
+    (unwrap_or (first_of (codes "files-from") rows) (codes "-"))
 
 -- how many of an admission's file and the input are standard input
 abbrev pub standards_of : List Row → Text → ℕ

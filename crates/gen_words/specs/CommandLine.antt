@@ -96,6 +96,14 @@ print_id = flag_named (codes "print-id")
 abbrev pub file : Rule
 file = word_named (codes "file")
 
+-- the files of the inputs, a word for each; standard input, if there is none, and for a minus
+abbrev pub files : Rule
+files = record (word_named (codes "file")) { action = Some Append }
+
+-- the file of a list of more names
+abbrev pub files_from : Rule
+files_from = option_named (codes "files-from")
+
 -- the name that is explained, in the place of a file; all names are listed, if it is absent
 abbrev pub name : Rule
 name = word_named (codes "file")
@@ -120,9 +128,13 @@ with_asked command = with_rule (with_rule (with_rule command asked) admission_fi
 abbrev pub with_asking : App → App
 with_asking command = with_rule (with_asked (with_rule command workers)) faulty
 
--- a command whose answer is a verdict, of a file
+-- a command whose answer is a verdict
 abbrev pub with_verdict : App → App
-with_verdict command = with_rule (with_rule (with_rule command strict) json) file
+with_verdict command = with_rule (with_rule command strict) json
+
+-- a command that takes several files, by words and by a list, too
+abbrev pub with_files : App → App
+with_files command = with_rule (with_rule command files_from) files
 
 -- the commands with what each takes
 abbrev pub decide : App
@@ -132,13 +144,13 @@ abbrev pub run : App
 run = with_rule (with_rule (with_rule (new_app (codes "run")) capacity) print_run) file
 
 abbrev pub judge : App
-judge = with_verdict (with_rule (with_rule (new_app (codes "judge")) capacity) workers)
+judge = with_rule (with_verdict (with_rule (with_rule (new_app (codes "judge")) capacity) workers)) file
 
 abbrev pub campaign : App
 campaign = with_rule (with_rule (with_rule (new_app (codes "campaign")) capacity) print_run) file
 
 abbrev pub audit : App
-audit = with_verdict (with_asking (new_app (codes "audit")))
+audit = with_files (with_verdict (with_asking (new_app (codes "audit"))))
 
 abbrev pub draw : App
 draw = with_rule (with_asking (new_app (codes "draw"))) file
@@ -148,7 +160,7 @@ accuse =
     with_rule (with_rule (with_asked (with_rule (new_app (codes "accuse")) general)) of_receipts) file
 
 abbrev pub evidence : App
-evidence = with_rule (with_rule (with_asked (new_app (codes "evidence"))) json) file
+evidence = with_files (with_rule (with_asked (new_app (codes "evidence"))) json)
 
 abbrev pub receipt : App
 receipt = with_rule (with_asked (with_rule (new_app (codes "receipt")) general)) file
@@ -157,7 +169,7 @@ abbrev pub receipts : App
 receipts = with_rule (with_rule (with_asked (new_app (codes "receipts"))) json) file
 
 abbrev pub show : App
-show = with_rule (with_rule (with_asked (new_app (codes "show"))) json) file
+show = with_files (with_rule (with_asked (new_app (codes "show"))) json)
 
 abbrev pub root : App
 root = with_rule (with_rule (new_app (codes "root")) tall) file

@@ -3,6 +3,7 @@ pub mod CommandLine
 pub mod Commands
 pub mod FaultLine
 pub mod Jobs
+pub mod Listing
 pub mod Several
 pub mod Systems
 pub mod Tool

@@ -52,9 +52,13 @@ abbrev pub set_given : Option Text → Option (List ℕ)
 set_given None = Some []
 set_given (Some text) = set_named text
 
+-- all texts of an argument
+abbrev pub words_of : Text → List Row → List Text
+words_of name rows = unwrap_or (all_of name rows) []
+
 -- the words behind the header
 abbrev pub log_words : List Row → List Text
-log_words rows = unwrap_or (all_of (codes "log") rows) []
+log_words rows = words_of (codes "log") rows
 
 -- the arguments of `bundle` say this
 pub record SaysBundle (rows : List Row) (faulty : List ℕ) (header : Text) (generals : List ℕ)

@@ -21,13 +21,15 @@ pub struct Admitting<'a> {
     pub system: Option<[u8; 32]>,
 }
 
-/// Returns the word for the file of the input, which is a minus where no word names it.
+/// Returns the word for the first file that is read beside the admission: that of the input, or else of a list of names. It
+/// is a minus where no word names either.
 fn input_word<'a>(inner: &ArgMatches<'a>) -> &'a str
     ensures { result.now ≡ input_word (rows_of (found_of inner.now)) }
 {
-    match text_of(inner, "file") {
-        Some(file) => file,
-        None => STANDARD,
+    match (text_of(inner, "file"), text_of(inner, "files-from")) {
+        (Some(file), _) => file,
+        (None, Some(list)) => list,
+        (None, None) => STANDARD,
     }
 }
 

@@ -25,7 +25,8 @@ Examples:
   sm_tool explain N8
 
 Each command reads FILE to its end, or standard input if there is no FILE or it is '-', and writes nothing before its
-output is whole; enroll writes piece by piece. Bundles, campaigns, evidence, receipts, systems and admissions are bytes: redirect them.
+output is whole; enroll writes piece by piece, and of several files each is answered as it would be alone. Bundles,
+campaigns, evidence, receipts, systems and admissions are bytes: redirect them.
 
 Exit status:
   0  done: the output is whole, and doesn't say no; a picture never does
@@ -169,6 +170,37 @@ fn file_argument<'a>(alloc: Global) -> Arg<'a>
     word_named(alloc, "file", "FILE", help)
 }
 
+/// Returns the argument FILE, which may stand several times: the files of the inputs.
+fn files_argument<'a>(alloc: Global) -> Arg<'a>
+    ensures rule { rule_of result ≡ lines.files }
+    ensures local { result.global ≡ false }
+{
+    let help = "The files of the inputs; standard input if there is none, and for '-'";
+    word_named(alloc, "file", "FILE", help).action(ArgAction::Append)
+}
+
+/// Returns the option `--files-from`: the file of a list of more names.
+fn files_from_option<'a>(alloc: Global) -> Arg<'a>
+    ensures rule { rule_of result ≡ lines.files_from }
+    ensures local { result.global ≡ false }
+{
+    let help = "Takes more names from LIST, each with a zero byte behind it; '-' is standard input";
+    option_named(alloc, "files-from", "LIST", help)
+}
+
+/// Returns a command that takes several files, by words and by a list, too.
+fn with_files<'a>(alloc: Global, command: CommandBuilder<'a>) -> CommandBuilder<'a>
+    requires { (fields_of command.command).has_globals ≡ false }
+    ensures kept { result.refused ≡ false → command.entry.refused ≡ false }
+    ensures app { result.refused ≡ false
+        → app_of result.command ≡ lines.with_files (app_of command.entry.command) }
+    ensures local { (fields_of result.command).has_globals ≡ false }
+{
+    command
+        .arg(files_from_option(alloc))
+        .arg(files_argument(alloc))
+}
+
 /// Returns a command that takes a number of workers, the runs that are asked for and the generals that are held for
 /// faulty, too.
 fn with_asking<'a>(alloc: Global, command: CommandBuilder<'a>) -> CommandBuilder<'a>
@@ -181,7 +213,7 @@ fn with_asking<'a>(alloc: Global, command: CommandBuilder<'a>) -> CommandBuilder
     with_asked(alloc, command.arg(workers_option(alloc))).arg(faulty_option(alloc))
 }
 
-/// Returns a command whose answer is a verdict of a file: it takes `--strict`, `--json` and FILE, too.
+/// Returns a command whose answer is a verdict: it takes `--strict` and `--json`, too.
 fn with_verdict<'a>(alloc: Global, command: CommandBuilder<'a>) -> CommandBuilder<'a>
     requires { (fields_of command.command).has_globals ≡ false }
     ensures kept { result.refused ≡ false → command.entry.refused ≡ false }
@@ -193,7 +225,6 @@ fn with_verdict<'a>(alloc: Global, command: CommandBuilder<'a>) -> CommandBuilde
     command
         .arg(flag_named(alloc, "strict", strict))
         .arg(flag_named(alloc, "json", ONE_OBJECT))
-        .arg(file_argument(alloc))
 }
 
 /// Returns the command line with the commands that read a scenario or the text of a campaign: `decide`, `run`, `judge` and
@@ -224,7 +255,7 @@ fn with_scenarios<'a>(alloc: Global, tool: CommandBuilder<'a>) -> CommandBuilder
         .arg(file_argument(alloc));
     tool.subcommand(decide)
         .subcommand(run)
-        .subcommand(with_verdict(alloc, judge))
+        .subcommand(with_verdict(alloc, judge).arg(file_argument(alloc)))
         .subcommand(campaign)
 }
 
@@ -255,7 +286,7 @@ fn with_bundles<'a>(alloc: Global, tool: CommandBuilder<'a>) -> CommandBuilder<'
     let accuse = with_asked(alloc, of_general)
         .arg(flag_named(alloc, "receipts", receipts))
         .arg(file_argument(alloc));
-    tool.subcommand(with_verdict(alloc, audit))
+    tool.subcommand(with_files(alloc, with_verdict(alloc, audit)))
         .subcommand(draw.arg(file_argument(alloc)))
         .subcommand(accuse)
 }
@@ -268,9 +299,9 @@ fn with_showing<'a>(alloc: Global, tool: CommandBuilder<'a>) -> CommandBuilder<'
         → app_of result.command ≡ lines.with_show }
 {
     let about = "Reads evidence and prints whether it holds";
-    let evidence = with_asked(alloc, CommandBuilder::new(alloc, "evidence", about))
-        .arg(flag_named(alloc, "json", ONE_OBJECT))
-        .arg(file_argument(alloc));
+    let evidence = with_asked(alloc, CommandBuilder::new(alloc, "evidence", about)).arg(flag_named(
+        alloc, "json", ONE_OBJECT,
+    ));
     let about =
         "Reads a bundle and writes the receipt of a general's log, which shows its decision";
     let of_general = CommandBuilder::new(alloc, "receipt", about).arg(general_option(
@@ -284,13 +315,15 @@ fn with_showing<'a>(alloc: Global, tool: CommandBuilder<'a>) -> CommandBuilder<'
         .arg(file_argument(alloc));
     let about =
         "Reads a bundle, a campaign, evidence or a header, and prints what it says, a line for each fact";
-    let show = with_asked(alloc, CommandBuilder::new(alloc, "show", about))
-        .arg(flag_named(alloc, "json", OBJECT_IN_EACH_LINE))
-        .arg(file_argument(alloc));
-    tool.subcommand(evidence)
+    let show = with_asked(alloc, CommandBuilder::new(alloc, "show", about)).arg(flag_named(
+        alloc,
+        "json",
+        OBJECT_IN_EACH_LINE,
+    ));
+    tool.subcommand(with_files(alloc, evidence))
         .subcommand(receipt)
         .subcommand(receipts)
-        .subcommand(show)
+        .subcommand(with_files(alloc, show))
 }
 
 /// Returns the command line with the commands that prepare a run or a dispute: `root`, `header`, `plan`, `bundle` and

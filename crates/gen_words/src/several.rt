@@ -1,7 +1,7 @@
 //! The words of the commands that have several files: `bundle` with a header and logs, `answer` with evidence and a log.
 ghost use Rattle.std.specs.Prelude.{◌≡◌, ◌∷◌, codes, IfErr, IfOk, MatchOption, Some, None, map, nat_le, option_map};
 ghost use Rattle.clap.specs.Words.{first_of, found_of, rows_of};
-ghost use Rattle.gen_words.specs.Several.{AreNamed, AsksSeveral, IsAnswerFault, IsBundleFault, IsSeveral, IsSeveralFaultOf, NamesNone, file_named, general_named, log_words, standards};
+ghost use Rattle.gen_words.specs.Several.{AreNamed, AsksSeveral, IsAnswerFault, IsBundleFault, IsSeveral, IsSeveralFaultOf, NamesNone, file_named, general_named, log_words, standards, words_of};
 
 use crate::words::{WordsFault, general_of, matches_of};
 use clap::ArgMatches;
@@ -92,6 +92,21 @@ pub(crate) fn text_of<'a>(inner: &ArgMatches<'a>, name: &str) -> Option<&'a str>
     inner.get_str(name)
 }
 
+/// Returns all texts of an argument, in their order.
+pub(crate) fn texts_of<'a>(
+    alloc: Global,
+    inner: &ArgMatches<'a>,
+    name: &str,
+) -> Result<Vec<&'a str>, AllocError>
+    ensures { IfOk result (λ texts. map (λ t. t.now) texts.items
+        ≡ words_of name.now (rows_of (found_of inner.now))) }
+{
+    match inner.get_strs(name) {
+        Some(texts) => Vec::from_slice(alloc, texts),
+        None => Ok(Vec::new(alloc)),
+    }
+}
+
 /// Returns the general and the file of each log that the words behind the header name, if each of them names one.
 pub(crate) fn named_in<'a>(
     alloc: Global,
@@ -100,10 +115,8 @@ pub(crate) fn named_in<'a>(
     ensures { IfOk result (λ named. MatchOption named (NamesNone (log_words (rows_of (found_of inner.now))))
         (λ n. AreNamed (log_words (rows_of (found_of inner.now))) n.generals.items (map (λ f. f.now) n.files.items))) }
 {
-    match inner.get_strs("log") {
-        Some(words) => logs_named(alloc, words),
-        None => logs_named(alloc, &[]),
-    }
+    let words = texts_of(alloc, inner, "log")?;
+    logs_named(alloc, &words)
 }
 
 /// Returns what the arguments of the command `bundle` say.

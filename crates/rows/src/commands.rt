@@ -4,7 +4,7 @@ use clap::error::ErrorKind;
 use gen_asked::{Job, Telling};
 use gen_jobs::{JobEnd, job_fault_line};
 use gen_net::Version;
-use gen_words::{Several, WordsFault, read_several, read_words};
+use gen_words::{Several, WordsFault, read_listing, read_several, read_words};
 use row_calls::names::Refused;
 use row_calls::rows::Row;
 use row_calls::texts::Answer;
@@ -45,8 +45,28 @@ fn tell_words(alloc: Global, mut row: Row<'_>, answer: &mut Answer) -> Result<()
     let words = words_of(alloc, row.word()?)?;
     match read_several(alloc, &words) {
         Ok(Some(several)) => answer.word(command_of(&several)),
-        Ok(None) => tell_asked(&read_words(alloc, &words), answer)?,
+        Ok(None) => tell_listing(alloc, &words, answer)?,
         Err(fault) => answer.word(refusal_of(&fault)?),
+    }
+    Ok(())
+}
+
+/// Tells the job that words ask for. If they name several files or a list of names, it tells how many words are files, and
+/// whether there is a list.
+fn tell_listing(alloc: Global, words: &[&str], answer: &mut Answer) -> Result<(), Refused> {
+    let asked = read_words(alloc, words);
+    match (&asked, read_listing(alloc, words)) {
+        (Ok(_), Err(fault)) => answer.word(refusal_of(&fault)?),
+        (Ok(job), Ok(Some(listing))) => {
+            tell_job(*job, answer);
+            answer.field("files", listing.files.len());
+            answer.word(if listing.list.is_some() {
+                "list"
+            } else {
+                "no list"
+            });
+        }
+        _ => tell_asked(&asked, answer)?,
     }
     Ok(())
 }

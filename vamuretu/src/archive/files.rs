@@ -66,15 +66,18 @@ pub enum Names {
     Json,
 }
 
-/// A line with the name of a file: the name alone, or an object as `archive export --json` or `each.py` has it.
+/// A line with the name of a file: the name alone, or an object as `archive export --json` has it, or as `sm_tool audit --json`
+/// does of a verdict or of a fault.
 #[derive(Deserialize)]
 #[serde(untagged)]
 enum Named {
     Alone(String),
     Row {
-        #[serde(alias = "file")]
+        #[serde(alias = "file", alias = "name")]
         path: Option<String>,
         path_hex: Option<String>,
+        /// Of a verdict an object with the name; of an export the SHA-256.
+        input: Option<serde_json::Value>,
     },
 }
 
@@ -219,7 +222,10 @@ fn path_of(names: Names, name: Vec<u8>) -> io::Result<PathBuf> {
         Names::Json => match serde_json::from_slice(&name)? {
             Named::Row { path_hex: Some(digits), .. } => hex::decode(digits).map_err(|told| wrong(told.to_string()))?,
             Named::Alone(path) | Named::Row { path: Some(path), .. } => path.into_bytes(),
-            Named::Row { .. } => return Err(wrong("a line has no path")),
+            Named::Row { input, .. } => match input.as_ref().and_then(|it| it.get("name")?.as_str()) {
+                Some(path) => path.as_bytes().to_vec(),
+                None => return Err(wrong("a line has no path")),
+            },
         },
     };
     Ok(PathBuf::from(std::ffi::OsString::from_vec(bytes)))
@@ -264,9 +270,14 @@ mod tests {
         let paths = |names: &[&[u8]]| names.iter().map(|it| PathBuf::from(OsStr::from_bytes(it))).collect::<Vec<_>>();
         assert_eq!(told(Names::Lines, b"/x/a b\n\n/x/\xff").expect("names"), paths(&[b"/x/a b", b"/x/\xff"]));
         assert_eq!(told(Names::Nulls, b"/x/a\nb\0/x/c\0").expect("names"), paths(&[b"/x/a\nb", b"/x/c"]));
-        let lines = b"\"/x/a\\nb\"\n{\"file\":\"/x/c\",\"number\":3}\n{\"path\":\"?\",\"path_hex\":\"2f78ff\"}\n";
+        let lines = b"\"/x/a\\nb\"\n{\"file\":\"/x/c\",\"number\":3}\n{\"input\":\"0\",\"path\":\"?\",\"path_hex\":\"2f78ff\"}\n";
         assert_eq!(told(Names::Json, lines).expect("names"), paths(&[b"/x/a\nb", b"/x/c", b"/x\xff"]));
+        let lines = b"{\"format\":\"verdict\",\"input\":{\"bytes\":3,\"name\":\"/x/d\"}}\n{\"format\":\"fault\",\"name\":\"/x/\xc3\xbc\"}\n";
+        assert_eq!(told(Names::Json, lines).expect("names"), paths(&[b"/x/d", b"/x/\xc3\xbc"]));
         assert!(told(Names::Json, b"{}\n").is_err() && told(Names::Json, b"/x/a\n").is_err());
+        for line in [&b"{\"input\":{\"name\":null}}\n"[..], b"{\"name\":null}\n"] {
+            assert!(told(Names::Json, line).is_err());
+        }
     }
 
     #[test]

@@ -4,7 +4,7 @@
 /// What a conviction is worth.
 pub const CONVICTION: [&str; 4] = [
     "A conviction stands on signatures alone, and needs no witness: anybody can check it by the commands below.",
-    "It shows that the node, or somebody who has its keys, signed what a node that follows the rules once never signs.",
+    "It shows that the node, or somebody who has its keys, signed what a node that follows the rules never signs in one run.",
     "It leaves open who has the keys, why this was signed, and whether it did harm.",
     "The node can answer by the log that it kept. Such an answer asks who has the keys, and clears nobody.",
 ];
@@ -51,7 +51,10 @@ pub fn kind(kind: &str) -> &'static str {
 /// What a verdict means, in the words of a person.
 pub fn verdict(verdict: &str) -> &'static str {
     match verdict {
-        "agreed" => "The signed logs fit together, and all nodes that are not set aside decided the same value.",
+        "agreed" => {
+            "The signed logs fit together, and all nodes that are not set aside decided the same value. A convicted node can be \
+             one of those that are set aside."
+        }
         "explained" => {
             "The signed logs fit together, but more nodes are set aside than the run was planned for: nothing says that the \
              others had to agree."

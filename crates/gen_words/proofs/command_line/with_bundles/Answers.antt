@@ -5,7 +5,7 @@ use Rattle.gen_words.proofs.command_line.with_bundles.Goals as goal
 pub returns-clause-app : goal.returns-clause-app
 returns-clause-app c = λ kept before.
     with_command _ _ _ _ _ _ _ _ (with_command _ _ _ _ _ _ _ _ (with_command _ _ _ _ _ _ _ _ (λ _. before)
-    (with_arguments lines.with_verdict _ _ _ _ _ (with_arguments lines.with_asking _ _ _ _ _ (λ _. c.new.ensures.app) c.with_asking-audit.ensures.kept c.with_asking-audit.ensures.app) c.with_verdict.ensures.kept c.with_verdict.ensures.app)
+    (with_arguments lines.with_files _ _ _ _ _ (with_arguments lines.with_verdict _ _ _ _ _ (with_arguments lines.with_asking _ _ _ _ _ (λ _. c.new.ensures.app) c.with_asking-audit.ensures.kept c.with_asking-audit.ensures.app) c.with_verdict.ensures.kept c.with_verdict.ensures.app) c.with_files.ensures.kept c.with_files.ensures.app)
     c.subcommand.ensures.kept c.subcommand.ensures.more c.subcommand.ensures.app)
     (with_argument _ _ _ _ _ _ _ (with_arguments lines.with_asking _ _ _ _ _ (λ _. c.new-2.ensures.app) c.with_asking-draw.ensures.kept c.with_asking-draw.ensures.app) c.file_argument-2.ensures.rule c.arg-2.ensures.kept c.arg-2.ensures.app)
     c.subcommand-2.ensures.kept c.subcommand-2.ensures.more c.subcommand-2.ensures.app)
