@@ -457,6 +457,8 @@ def try_time(program, made, other, tally, runs):
     index = Index(program, made, "index")
     spoil(made, other)
     files = [os.path.join(at, name) for at, _, names in os.walk(made.path("archive")) for name in names]
+    # An archive stands on the disk before it is judged.
+    os.sync()
     since = time.monotonic()
     told = index.add()
     judged = time.monotonic() - since
