@@ -7,8 +7,8 @@ for longer.
 TOOL is sm_tool and PROGRAM is vamuretu, both as they were built, with the archives of the libraries in out/ or where `rt
 lib` leaves them. RUNS is 2000 without a number, which take four minutes; 20000 take 40 minutes and 8 GB below /tmp.
 PLACES is `wired`, or `cabled` for pairs of veth, which lose no packet. It prints what is wrong, and figures. The status
-is 1 where something is wrong. Of 1600 runs, four a second beside other work, a node held 16.5 MB at most, and from the
-second quarter of the runs to the last one it grew by at most 0.6 MB; the watcher held 31.6 MB, and grew by 1.5 MB.
+is 1 where something is wrong. Of 2000 runs on an idle machine, from the second quarter of the runs to the last one, node
+0 grew from 19.6 to 21.4 MB, the watcher from 25.5 to 25.7, and the other nodes by 0.6 at most.
 """
 import os
 import sys
