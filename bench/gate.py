@@ -1,8 +1,9 @@
 #!/usr/bin/env python3
 """Runs the gate, `rt ci`, from nothing, and keeps where its processor time went.
 
-    python3 bench/gate.py run [FILE]      at the top of the repository, with the kit's rt on the path
-    python3 bench/gate.py table [FILE]    prints the table of what a run kept
+    python3 bench/gate.py run [FILE]             at the top of the repository, with the kit's rt on the path
+    python3 bench/gate.py table [FILE]           prints the table of what a run kept
+    python3 bench/gate.py compare BEFORE [FILE]  prints both sums, in seconds of the machine of BEFORE
 
 The gate runs in this process, takes nothing from earlier runs, and its last line is its own. FILE, which is bench/gate.csv
 where none is named, then has a row for each crate and step: the step is `proof`, `tests` (which prove the crate again, and run)
@@ -11,7 +12,8 @@ are processor seconds, user and system. They are those that the system counted f
 work on the machine changes them little. The row `toolchain` has what the gate's own process took, and the row `all` the whole,
 once as processor seconds and once, as the step `wall`, as seconds of wall time. Each row has the kit, the number of cores, the
 date and the commit. The sources have to be those of the commit, and a file without a commit is refused. How a step is told from
-another depends on the kit, so other kits than those that this was tried with are refused.
+another depends on the kit, so other kits than those that this was tried with are refused. `compare` takes
+the proofs of crates whose sources are the same in the commits of both files, and how their times stand to one another.
 """
 import collections
 import csv
@@ -142,12 +144,33 @@ def print_table(file):
     print(f"\n{told}, {first['kit']}, {first['cores']} cores, {first['date']}, commit {first['commit']}")
 
 
+def is_same(crate, *commits):
+    """Whether the sources of a crate are the same in two commits."""
+    sources = [f"crates/{crate}/{it}" for it in ("src", "specs", "proofs", "c")]
+    return subprocess.run(["git", "diff", "--quiet", *commits, "--", *sources], check=False).returncode == 0
+
+
+def compare(before, file):
+    """Prints how two kept runs stand to one another."""
+    (first, old), (second, new) = read_kept(before), read_kept(file)
+    crates = [crate for crate, step in old if step == "proof" and (crate, step) in new and crate != "toolchain"]
+    same = [(old[it, "proof"], new[it, "proof"]) for it in crates if is_same(it, first["commit"], second["commit"])]
+    factor = sum(after for _, after in same) / sum(once for once, _ in same)
+    each = [after / once for once, after in same]
+    sums = [it["all", "all"] / 60 for it in (old, new)]
+    print(f"{len(same)} crates with the same sources took {factor:.2f} times as long, each {min(each):.2f} to {max(each):.2f}")
+    print(f"the gate took {sums[0]:.0f} processor minutes, and then {sums[1] / factor:.0f}: {sums[1]:.0f} divided by {factor:.2f}")
+
+
 def main():
     words = sys.argv[1:]
-    if len(words) not in (1, 2) or words[0] not in ("run", "table"):
+    least = {"run": 1, "table": 1, "compare": 2}.get(words[0] if words else None)
+    if least is None or not least <= len(words) <= least + 1:
         sys.exit(__doc__)
-    file = os.path.abspath(words[1]) if len(words) > 1 else FILE
+    file = os.path.abspath(words[least]) if len(words) > least else FILE
     try:
+        if words[0] == "compare":
+            return compare(words[1], file)
         return run_gate(file) if words[0] == "run" else print_table(file)
     except (Refused, OSError) as why:
         return f"gate: {why}"

@@ -30,6 +30,7 @@ import time
 
 from cargo_built import build_program
 from complete import Numbered, drive, write
+from engines import authority, lacking, make_key
 from node_calls import NO_ORDER, bundle_of
 from nodes import Library
 from processes import try_with_library
@@ -45,15 +46,6 @@ GENERALS, SLOTS, LAST = 4, 4, 3
 LIAR, FORGED, CUT, OTHER, MISSING, TWICE = 41, 7, 11, 18, 23, 28
 # What stands in the place of the name of a bundle.
 NAMES = {2: "two words", 3: "$(touch ran)", 5: "line\nfeed", 6: "<script>alert(1)<", 9: "\udcff", 10: "back\\slash"}
-# What makes a key, and a service of time stamps, and how this service answers.
-SERVICE = [
-    "ssh-keygen -q -t ed25519 -N '' -f key && echo \"judge $(cat key.pub)\" > signers && echo 01 > serial",
-    "printf '[tsa]\\nserial = serial\\ndefault_policy = 1.2.3.4\\ndigests = sha256\\nsigner_digest = sha256\\n' > ts.conf",
-    "openssl req -x509 -newkey rsa:2048 -nodes -keyout tsa.key -out tsa.crt -subj /CN=stamps -addext "
-    "extendedKeyUsage=critical,timeStamping",
-]
-REPLY = ("openssl ts -reply -config ts.conf -section tsa "
-         "-queryfile report.html.tsq -signer tsa.crt -inkey tsa.key -out report.html.tsr")
 # When the program is killed, as parts of the time that it takes.
 KILLS = (0.02, 0.2, 0.4, 0.5, 0.6, 0.7, 0.8, 0.9)
 TABLES = {
@@ -396,17 +388,23 @@ def try_file_page(index):
 
 
 def try_signing(index, tally):
-    """The commands of the page sign it and stamp its time; a service is made here."""
-    if not shutil.which("ssh-keygen") or not shutil.which("openssl"):
-        tally.note("left out: ssh-keygen or openssl is not there")
+    """The commands of the page sign it, stamp its time by a service that is made here, and refuse another page."""
+    if lacks := lacking("ssh-keygen", "openssl", "curl"):
+        tally.note(f"left out: the commands that sign, since {lacks} is not there")
         return
-    told = Looked(page_of(index, index.path)).text.splitlines()
-    digest, sign, query, verify, stamped = (it for it in told if it.startswith(("sha256sum r", "ssh-keygen", "openssl")))
-    verify, stamped = verify.replace("SIGNERS", "signers").replace("WHO", "judge"), stamped.replace("AUTHORITY", "tsa.crt")
-    commands = [*SERVICE, digest, sign.replace("KEY", "key"), query, REPLY, verify, stamped, "echo >> report.html"]
-    commands += [f"if {it}; then exit 1; fi" for it in (verify, stamped)]
-    end = run("/bin/sh", ["-ec", "\n".join([*commands, "echo done"])], cwd=index.made.folder)
-    same("the commands that sign", (end.status, end.wrote.splitlines()[-1:]), (0, [b"done"]))
+    shows = ("sha256sum r", "ssh-keygen", "openssl", "curl")
+    told = [it for it in Looked(page_of(index, index.path)).text.splitlines() if it.startswith(shows)]
+    folder = index.made.path("signing")
+    os.mkdir(folder)
+    make_key(f"{folder}/key")
+    with authority(folder) as address:
+        words = {"KEY": "signing/key", "SIGNERS": "signing/signers", "WHO": "judge"}
+        words |= {"AUTHORITY": "signing/top.pem", "SERVICE": address}
+        *made, verify, stamped = (re.sub("|".join(words), lambda it: words[it[0]], line) for line in told)
+        commands = ["(echo -n 'judge '; cat signing/key.pub) > signing/signers", *made, verify, stamped, "echo >> report.html"]
+        commands += [f"if {it}; then exit 1; fi" for it in (verify, stamped)]
+        end = run("/bin/sh", ["-ec", "\n".join([*commands, "echo done"])], cwd=index.made.folder)
+    same("the commands that sign", (len(told), end.status, end.wrote.splitlines()[-1:]), (6, 0, [b"done"]))
 
 
 # ---- all of it

@@ -292,13 +292,17 @@ def convictions_wrong(soak):
 def memory_wrong(soak, first):
     """What is wrong with the memory: in the last quarter of the cycles a process has more than in the second one, or too much."""
     figures, wrong, cycles = {}, [], soak.runs // CYCLE
+
+    def level(held, part):
+        """The median of what was held in these cycles."""
+        return round(statistics.median([it for number, it in held if (number - first) // CYCLE in part] or [0]))
+
+    quarters = [range(cycles * at // 4, cycles * (at + 1) // 4) for at in range(4)]
     for name, held in soak.memory.items():
-        parts = [range(cycles // 4, cycles // 2), range(cycles - cycles // 4, cycles)]
-        levels = [[it for number, it in held if (number - first) // CYCLE in part] for part in parts]
-        before, last = (round(statistics.median(it)) if it else 0 for it in levels)
-        figures[name] = {"second quarter": before, "last quarter": last, "most": max(it for _, it in held)}
-        wrong += [f"the memory of {name} grew from {before} to {last} KiB"] if cycles >= CYCLES and last > before + GROWS else []
-        wrong += [f"{name} took {figures[name]['most']} KiB"] if figures[name]["most"] > MOST else []
+        levels, most = [level(held, part) for part in quarters], max(it for _, it in held)
+        figures[name] = {"by quarters": levels, "most": most}
+        wrong += [f"the memory of {name} grew so: {levels} KiB"] if cycles >= CYCLES and levels[3] > levels[1] + GROWS else []
+        wrong += [f"{name} took {most} KiB"] if most > MOST else []
     return wrong, figures
 
 

@@ -10,7 +10,8 @@ use std::path::Path;
 use std::sync::{Arc, Mutex, MutexGuard};
 use std::time::Duration;
 
-use rustls::server::AllowAnyAuthenticatedClient;
+use rustls::client::NoClientSessionStorage;
+use rustls::server::{AllowAnyAuthenticatedClient, NoServerSessionStorage};
 use rustls::{Certificate, ClientConfig, PrivateKey, RootCertStore, ServerConfig, ServerName};
 use tokio::io::{AsyncRead, AsyncReadExt, AsyncWrite, AsyncWriteExt};
 use tokio::net::TcpStream;
@@ -176,10 +177,13 @@ impl Transport {
         let key = PrivateKey(pem(&tls.key, private_keys)?.swap_remove(0));
         let wrong = |told: rustls::Error| End::fault(&tls.key, told);
         let to = ClientConfig::builder().with_safe_defaults().with_root_certificates(authority.clone());
-        let to = to.with_single_cert(own.clone(), key.clone()).map_err(wrong)?;
+        let mut to = to.with_single_cert(own.clone(), key.clone()).map_err(wrong)?;
         let verifier = AllowAnyAuthenticatedClient::new(authority);
         let from = ServerConfig::builder().with_safe_defaults().with_client_cert_verifier(verifier);
-        let from = from.with_single_cert(own, key).map_err(wrong)?;
+        let mut from = from.with_single_cert(own, key).map_err(wrong)?;
+        // No session is resumed: what is kept for that grows with the connections, and passes certificates by.
+        to.session_storage = Arc::new(NoClientSessionStorage {});
+        from.session_storage = Arc::new(NoServerSessionStorage {});
         Ok(Transport { tls: Some((Arc::new(to).into(), Arc::new(from).into())) })
     }
 

@@ -82,15 +82,17 @@ fn quoted(path: &Path) -> String {
     format!("'{}'", path.to_string_lossy().replace('\'', "'\\''"))
 }
 
-/// The commands that make the evidence of a conviction in a run, out of a file with these runs, and check it.
-fn commands(general: u32, run: &str, runs: &[String], file: &Path) -> String {
+/// The commands that make the evidence of a conviction in a run, out of a file with these runs, and check it. Where the node
+/// has a number in a system, a remark tells it.
+fn commands(general: u32, node: Option<u32>, run: &str, runs: &[String], file: &Path) -> String {
+    let remark = node.map_or_else(String::new, |node| format!("# node {node} is general {general} of this run\n"));
     let ids = runs.iter().map(|id| format!(" --run {id}")).collect::<String>();
     let accuse = format!("sm_tool accuse --general {general}{ids}");
     let made = match file.extension().is_some_and(|end| end == "zst") {
         true => format!("zstd -dc --long=27 {} | {accuse}", quoted(file)),
         false => format!("{accuse} {}", quoted(file)),
     };
-    format!("{made} > evidence\nsm_tool evidence --run {run} evidence")
+    format!("{remark}{made} > evidence\nsm_tool evidence --run {run} evidence")
 }
 
 /// A text in the singular or the plural.
@@ -137,8 +139,9 @@ mod tests {
         assert_eq!(quoted(Path::new("a'; rm -rf b")), "'a'\\''; rm -rf b'");
         let runs = ["1".into(), "2".into()];
         let wanted = "sm_tool accuse --general 3 --run 1 --run 2 'a b' > evidence\nsm_tool evidence --run 2 evidence";
-        assert_eq!(commands(3, "2", &runs, Path::new("a b")), wanted);
-        assert!(commands(3, "2", &runs, Path::new("a.zst")).starts_with("zstd -dc --long=27 'a.zst' | sm_tool accuse"));
+        assert_eq!(commands(3, None, "2", &runs, Path::new("a b")), wanted);
+        let wanted = "# node 1 is general 3 of this run\nzstd -dc --long=27 'a.zst' | sm_tool accuse";
+        assert!(commands(3, Some(1), "2", &runs, Path::new("a.zst")).starts_with(wanted));
     }
 
     #[test]

@@ -122,7 +122,8 @@ fn convicted(page: &mut Page, answer: &Answer, names: &Names, file: &Path) {
             let node = names.of(word(run), it.node);
             let said = vec![worth::kind(&it.kind).into(), format!("{}: {}", it.kind, sentence(&it.kind))];
             rows.push(vec![node.into(), Field::Code(run.run_id.clone()), Field::Lines(said)]);
-            commands.push(super::commands(run.general_of(it.node), &run.run_id, &ids, file));
+            let number = run.admitted.as_ref().map(|_| it.node);
+            commands.push(super::commands(run.general_of(it.node), number, &run.run_id, &ids, file));
         }
     }
     if !rows.is_empty() {

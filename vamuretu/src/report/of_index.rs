@@ -207,7 +207,8 @@ fn commands_of(found: &Found) -> String {
         return format!("sm_tool evidence --run {run} {}", quoted(Path::new(evidence)));
     }
     let file = found.files.first().map_or(Path::new(""), |it| it.as_path());
-    commands(found.general.unwrap_or_default(), run, &found.runs, file)
+    let node = found.node.filter(|_| found.is_node);
+    commands(found.general.unwrap_or_default(), node, run, &found.runs, file)
 }
 
 /// Runs that are not agreed, with what was found and whom that names.

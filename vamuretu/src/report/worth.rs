@@ -68,10 +68,12 @@ pub fn verdict(verdict: &str) -> &'static str {
 /// How the page is signed, and shown to have been there at a time. NAME is that of the page.
 pub const SIGNING: &str = "sha256sum NAME
 ssh-keygen -Y sign -f KEY -n vamuretu-report NAME
-openssl ts -query -data NAME -sha256 -cert -out NAME.tsq";
+openssl ts -query -data NAME -sha256 -cert -out NAME.tsq
+curl -s -H 'Content-Type: application/timestamp-query' --data-binary @NAME.tsq -o NAME.tsr SERVICE";
 pub const CHECKING: &str = "ssh-keygen -Y verify -f SIGNERS -I WHO -n vamuretu-report -s NAME.sig < NAME
 openssl ts -verify -in NAME.tsr -data NAME -CAfile AUTHORITY";
 pub const STAMPING: &str = "The first two give the digest and NAME.sig, by the private key KEY of whoever answers for the \
-    page. The third makes a request for a time stamp (RFC 3161): a service that you trust answers it by NAME.tsr. SIGNERS \
-    has a line with WHO and the public key, and AUTHORITY the certificate of the service. A signature says who stands \
+    page. The third makes a request for a time stamp (RFC 3161), and the fourth sends it to SERVICE, the address of a service that \
+    you trust, which answers by NAME.tsr. SIGNERS has a line with WHO and the public key, and AUTHORITY the certificate of the \
+    service. A signature says who stands \
     behind the page, and not that it is right: for that, judge the files again.";
