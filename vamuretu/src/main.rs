@@ -99,6 +99,16 @@ enum Command {
     Report(report::Report),
 }
 
+/// How many heaps all threads share in a process that goes on. By itself the C library makes up to eight for each processor, and
+/// each keeps the most that was ever taken from it.
+const HEAPS: libc::c_int = 2;
+
+/// Has all threads share few heaps.
+fn share_heaps() {
+    // SAFETY: it sets a number of the allocator, before there is another thread.
+    unsafe { libc::mallopt(libc::M_ARENA_MAX, HEAPS) };
+}
+
 /// The configuration of a node.
 fn node_file(path: &Path) -> Result<config::NodeFile, End> {
     config::read(path)
@@ -106,6 +116,9 @@ fn node_file(path: &Path) -> Result<config::NodeFile, End> {
 
 /// Does a command. Tells whether an archive has what it should not have.
 fn perform(command: &Command) -> Result<bool, End> {
+    if matches!(command, Command::Node { .. } | Command::Watch { .. }) {
+        share_heaps();
+    }
     let done = match command {
         Command::Archive(asked) => return archive::perform(asked),
         Command::Report(asked) => report::write(asked),

@@ -47,9 +47,6 @@ const MOST_DECISIONS: usize = 256;
 const LEAST_QUEUE: usize = 1 << 20;
 /// The stack of the thread of a run.
 const STACK: usize = 2 << 20;
-/// How many heaps all threads share. By itself the C library makes up to eight for each processor, and each keeps the most that
-/// was ever taken from it.
-const HEAPS: libc::c_int = 2;
 /// How long a node that ends waits for its watchers.
 const MOST_SHIPPING: Duration = Duration::from_secs(5);
 
@@ -377,15 +374,8 @@ fn check(file: &NodeFile, systems: &Systems, first: &Run) -> Result<(), End> {
     }
 }
 
-/// Has all threads share few heaps: each run has a thread of its own.
-fn share_heaps() {
-    // SAFETY: it sets a number of the allocator, before there is another thread.
-    unsafe { libc::mallopt(libc::M_ARENA_MAX, HEAPS) };
-}
-
 /// The command `node`.
 pub fn run(file: &NodeFile) -> Result<(), End> {
-    share_heaps();
     let systems = Systems::open(&file.system)?;
     let first = systems.run(0)?;
     check(file, &systems, &first)?;
