@@ -99,14 +99,18 @@ enum Command {
     Report(report::Report),
 }
 
-/// How many heaps all threads share in a process that goes on. By itself the C library makes up to eight for each processor, and
-/// each keeps the most that was ever taken from it.
+/// How many heaps all threads of a process that goes on share, and from how many bytes on a block is the system's own. By itself
+/// the C library makes up to eight heaps for each processor, and takes ever larger blocks from them: each keeps the most that it had.
 const HEAPS: libc::c_int = 2;
+const LARGE: libc::c_int = 1 << 17;
 
-/// Has all threads share few heaps.
-fn share_heaps() {
-    // SAFETY: it sets a number of the allocator, before there is another thread.
-    unsafe { libc::mallopt(libc::M_ARENA_MAX, HEAPS) };
+/// Has the memory of a process stay level.
+fn keep_level() {
+    // SAFETY: these set numbers of the allocator, before there is another thread.
+    unsafe {
+        libc::mallopt(libc::M_ARENA_MAX, HEAPS);
+        libc::mallopt(libc::M_MMAP_THRESHOLD, LARGE);
+    }
 }
 
 /// The configuration of a node.
@@ -117,7 +121,7 @@ fn node_file(path: &Path) -> Result<config::NodeFile, End> {
 /// Does a command. Tells whether an archive has what it should not have.
 fn perform(command: &Command) -> Result<bool, End> {
     if matches!(command, Command::Node { .. } | Command::Watch { .. }) {
-        share_heaps();
+        keep_level();
     }
     let done = match command {
         Command::Archive(asked) => return archive::perform(asked),
