@@ -158,12 +158,11 @@ def read_input() -> bytes:
 
 def write_output(output: bytes) -> None:
     """Write to standard output; where nothing is to be written, no write can fail."""
-    if not output:
-        return
-    if sys.stdout is None:
+    if output and sys.stdout is None:
         raise OSError(errno.EBADF, "")
-    sys.stdout.buffer.write(output)
-    sys.stdout.buffer.flush()
+    rest = memoryview(output)
+    while rest:
+        rest = rest[os.write(1, rest):]
 
 
 def tell(error: bytes) -> None:
@@ -173,13 +172,14 @@ def tell(error: bytes) -> None:
 
 
 def write_answer(answer: Answer) -> None:
-    """Write an answer, and what is told of it."""
-    _, output, error = answer
+    """Write an answer, and what is told of it. The object of a fault may be lost: its line and the status tell the fault."""
+    status, output, error = answer
     try:
         write_output(output)
     except OSError as failure:
-        tell(f"write failed\ncannot write standard output: {reason(failure)}\n".encode("ascii"))
-        os._exit(5)
+        if status <= 1:
+            tell(f"write failed\ncannot write standard output: {reason(failure)}\n".encode("ascii"))
+            os._exit(5)
     if error:
         tell(error)
 

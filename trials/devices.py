@@ -136,6 +136,7 @@ def try_order(program, tally):
     for name, end, wanted in [
         ("no input", by_shell(program, ["decide"], "</dev/null"), cut),
         ("a faulty text, a full device", by_shell(program, ["decide"], ">/dev/full", given=b""), cut),
+        ("its object, a full device", by_shell(program, ["decide", "--json"], ">/dev/full", given=b""), cut),
         ("a faulty text, a closed output", by_shell(program, ["run"], ">&-", given=b""), cut),
         ("a folder, a full device", by_shell(program, ["decide"], "</ >/dev/full"), FOLDER),
         ("a faulty text, nowhere to say so", by_shell(program, ["decide"], "2>&-", given=b""), unsaid),

@@ -54,8 +54,8 @@ BUFFER = 1 << 16
 # How far ahead values are proposed, in runs; what an answer to that may take, and the end of the liar, in seconds.
 FORE, ANSWER, ANSWER_OF_LIAR = 8, 0.5, 5
 # By how much the memory of a process may grow from the second quarter of so many cycles to the last one, by the medians, and what
-# it may be at most, in KiB: the watcher's SQLite fills its cache of 2 MiB meanwhile.
-GROWS, CYCLES, MOST = 3072, 8, 65_536
+# it may be at most, in KiB.
+GROWS, CYCLES, MOST = 1024, 8, 32_768
 # Of so many runs at least one has at most m faulty nodes, however busy the machine is.
 LEAST = 20
 # The runs that a system has beyond those that are tried.

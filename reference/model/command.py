@@ -627,8 +627,8 @@ def line_behind(job: Job, inputs: Sequence[bytes], words: str) -> str:
         return kind_line(job.sources()[0], inputs[0], READS[job.reads()])
     for begins, (place, kind) in WITHIN[job.command].items():
         if words.startswith(begins):
-            name = job.sources()[place]
-            return kind_line(name, inputs[place], (kind,)) or f"the fault is in {'-' if name is STANDARD else called(name)}\n"
+            name = job.sources()[place] or "-"
+            return kind_line(name, inputs[place], (kind,)) or f"the fault is in {called(name)}\n"
     return ""
 
 
