@@ -5,10 +5,9 @@ for longer.
     bench/soak.py TOOL PROGRAM [RUNS [PLACES]]
 
 TOOL is sm_tool and PROGRAM is vamuretu, both as they were built, with the archives of the libraries in out/ or where `rt
-lib` leaves them. RUNS is 2000 without a number, which take four minutes; 20000 take 40 minutes and 8 GB below /tmp.
+lib` leaves them. RUNS is 2000 without a number, which take four minutes; 20000 take 35 minutes and 8 GB below /tmp.
 PLACES is `wired`, or `cabled` for pairs of veth, which lose no packet. It prints what is wrong, and figures. The status
-is 1 where something is wrong. Of 2000 runs on an idle machine, from the second quarter of the runs to the last one, node
-0 grew from 19.6 to 21.4 MB, the watcher from 25.5 to 25.7, and the other nodes by 0.6 at most.
+is 1 where something is wrong.
 """
 import os
 import sys

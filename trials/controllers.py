@@ -90,9 +90,9 @@ class Process:
     """What nodes and the watcher have as processes."""
 
     def memory(self):
-        """The memory of the process, in KiB."""
+        """The memory that is the process's own, in KiB: of that which has the bytes of files the kernel takes some at times."""
         with open(f"/proc/{self.process.pid}/status", encoding="ascii") as file:
-            return int(next(line for line in file if line.startswith("VmRSS")).split()[1])
+            return int(next(line for line in file if line.startswith("RssAnon")).split()[1])
 
 
 class Node(Process):
