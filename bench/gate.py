@@ -12,8 +12,8 @@ are processor seconds, user and system. They are those that the system counted f
 work on the machine changes them little. The row `toolchain` has what the gate's own process took, and the row `all` the whole,
 once as processor seconds and once, as the step `wall`, as seconds of wall time. Each row has the kit, the number of cores, the
 date and the commit. The sources have to be those of the commit, and a file without a commit is refused. How a step is told from
-another depends on the kit, so other kits than those that this was tried with are refused. `compare` takes
-the proofs of crates whose sources are the same in the commits of both files, and how their times stand to one another.
+another depends on the kit, so other kits than those that this was tried with are refused. `compare` takes the crates whose
+sources are the same in the commits of both files, sums the seconds of their proofs, and divides the later gate by the ratio.
 """
 import collections
 import csv
@@ -155,6 +155,8 @@ def compare(before, file):
     (first, old), (second, new) = read_kept(before), read_kept(file)
     crates = [crate for crate, step in old if step == "proof" and (crate, step) in new and crate != "toolchain"]
     same = [(old[it, "proof"], new[it, "proof"]) for it in crates if is_same(it, first["commit"], second["commit"])]
+    if not same:
+        raise Refused("no crate has the same sources in both commits, as far as git knows them")
     factor = sum(after for _, after in same) / sum(once for once, _ in same)
     each = [after / once for once, after in same]
     sums = [it["all", "all"] / 60 for it in (old, new)]

@@ -90,7 +90,7 @@ class Process:
     """What nodes and the watcher have as processes."""
 
     def memory(self):
-        """The memory that is the process's own, in KiB: of that which has the bytes of files the kernel takes some at times."""
+        """The memory that is the process's own, in KiB: without the pages of its program and of libraries."""
         with open(f"/proc/{self.process.pid}/status", encoding="ascii") as file:
             return int(next(line for line in file if line.startswith("RssAnon")).split()[1])
 

@@ -181,7 +181,7 @@ impl Transport {
         let verifier = AllowAnyAuthenticatedClient::new(authority);
         let from = ServerConfig::builder().with_safe_defaults().with_client_cert_verifier(verifier);
         let mut from = from.with_single_cert(own, key).map_err(wrong)?;
-        // No session is resumed: what is kept for that grows with the connections, and passes certificates by.
+        // No session is resumed: that would show no certificate, and what is kept for it grows with the connections.
         to.session_storage = Arc::new(NoClientSessionStorage {});
         from.session_storage = Arc::new(NoServerSessionStorage {});
         Ok(Transport { tls: Some((Arc::new(to).into(), Arc::new(from).into())) })

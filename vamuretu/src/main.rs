@@ -104,8 +104,8 @@ enum Command {
 const HEAPS: libc::c_int = 2;
 const LARGE: libc::c_int = 1 << 17;
 
-/// Has the memory of a process stay level.
-fn keep_level() {
+/// Sets the allocator of the C library so that the memory of a process that goes on stays level.
+fn set_allocator() {
     // SAFETY: these set numbers of the allocator, before there is another thread.
     unsafe {
         libc::mallopt(libc::M_ARENA_MAX, HEAPS);
@@ -121,7 +121,7 @@ fn node_file(path: &Path) -> Result<config::NodeFile, End> {
 /// Does a command. Tells whether an archive has what it should not have.
 fn perform(command: &Command) -> Result<bool, End> {
     if matches!(command, Command::Node { .. } | Command::Watch { .. }) {
-        keep_level();
+        set_allocator();
     }
     let done = match command {
         Command::Archive(asked) => return archive::perform(asked),
