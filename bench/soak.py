@@ -2,11 +2,12 @@
 """Soaks four nodes that go on and a watcher: the trial `soaking` (trials/soaking.py), whose head says what happens to them,
 for longer.
 
-    bench/soak.py TOOL PROGRAM [RUNS [PLACES]]
+    bench/soak.py TOOL PROGRAM [RUNS [PLACES]] [--siege]
 
 TOOL is sm_tool and PROGRAM is vamuretu, both as they were built, with the archives of the libraries in out/ or where `rt
 lib` leaves them. RUNS is 2000 without a number, which take four minutes; 20000 take 35 minutes and 8 GB below /tmp.
-PLACES is `wired`, or `cabled` for pairs of veth, which lose no packet. It prints what is wrong, and figures. The status
+PLACES is `wired`, or `cabled` for pairs of veth, which lose no packet. With --siege an outsider floods each door meanwhile, and
+a traitor with a key does so too. It prints what is wrong, and figures. The status
 is 1 where something is wrong.
 """
 import os
@@ -20,10 +21,12 @@ RUNS = 2000
 
 
 def main():
-    if not 3 <= len(sys.argv) <= 5:
+    words = [it for it in sys.argv[1:] if it != "--siege"]
+    if not 2 <= len(words) <= 4:
         sys.exit(__doc__)
-    tool, program = map(os.path.abspath, sys.argv[1:3])
-    told, lacks = soaked(tool, program, int(sys.argv[3]) if sys.argv[3:] else RUNS, *sys.argv[4:])
+    tool, program = map(os.path.abspath, words[:2])
+    runs, kind = int(words[2]) if words[2:] else RUNS, words[3] if words[3:] else "wired"
+    told, lacks = soaked(tool, program, runs, kind, "--siege" in sys.argv)
     for name, value in told["figures"].items():
         print(f"{name}: {value}")
     print(f"left out: namespaces, losses and a full disk: {lacks}" if lacks else "", end="\n" if lacks else "")

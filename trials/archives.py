@@ -299,10 +299,12 @@ def rows_of(index):
 
 def try_exports(index):
     """The rows as CSV are those as JSON, and the digests are those of the files."""
-    told = index.ask("archive", "export", index.path, "--csv").wrote.decode(errors="surrogateescape")
+    told = index.ask("archive", "export", index.path, "--csv").wrote.decode()
     rows, wanted = list(csv.DictReader(io.StringIO(told, newline=""))), rows_of(index)
-    same("the rows", [(it["path"], it["verdict"], it["fault"]) for it in rows],
-         [(it["path"], it["verdict"] or "", it["fault"] or "") for it in wanted])
+    path = lambda it: os.fsdecode(bytes.fromhex(it["path_hex"])) if it["path_hex"] else it["path"]
+    same("the rows", [(path(it), it["verdict"], it["fault"]) for it in rows],
+         [(path_of(it), it["verdict"] or "", it["fault"] or "") for it in wanted])
+    same("hidden characters in CSV", [it for it in told if ord(it) < 32 and it != "\n"], [])
     digests = index.ask("archive", "export", index.path, "--digests").wrote
     end = run("sha256sum", ["-c", "--quiet", "-"], digests)
     same("the digests", (end.status, end.wrote, digests.count(b"\n")), (0, b"", len({it["path"] for it in wanted if not it["gone"]})))
@@ -357,7 +359,7 @@ def try_page(index):
     same("what runs", {it for it in ("script", "iframe", "object", "embed", "link", "form", "b") if looked.names[it]}, set())
     same("pictures", looked.names["img"], 2)
     first = next(it for it in looked.texts if "Signatures convict" in it)
-    if f"node {liar} (Pump <b>house</b>) in run {LIAR}." not in first:
+    if f"node {liar} (Pump <b>house</b>) in run {LIAR}, where it is general 0." not in first:
         raise Wrong(f"the first sentence is {first}")
     wanted = ["Who is convicted", "All that was found", "Runs that are not agreed", "Files that cannot be judged",
               "Runs without a file that", "Several files of one run", "Runs of no known admission", "All runs"]
@@ -376,7 +378,7 @@ def try_file_page(index):
     made, liar = index.made, index.made.bundle(LIAR)
     of_set = made.path("admissions", f"{LIAR // SLOTS * SLOTS}.admission")
     told = Looked(page_of(index, liar, "--system", made.id, "--admissions", of_set)).text
-    for part in (f"Run {LIAR}: agreed", f"node {made.node_of(LIAR, 0)}", "convicted 0 by K2"):
+    for part in (f"Run {LIAR}: agreed", f"node {made.node_of(LIAR, 0)}, general 0 in this run", "convicted 0 by K2"):
         if part not in told:
             raise Wrong(f"a page lacks {part}: {told[:1000]}")
     if "No run id was given" not in Looked(page_of(index, liar)).text:
@@ -385,6 +387,41 @@ def try_file_page(index):
     for words in ([liar, "--run", "0" * 64], [made.bundle(CUT)], [liar, *of_other]):
         end = run(index.program, ["report", *words, "--out", made.path("none.html")])
         same(f"no page on {words}", (end.status, os.path.exists(made.path("none.html"))), (3, False))
+
+
+def try_numberless(index):
+    """Where runs have no numbers, nothing is added up by the number of a general, and no name is given."""
+    made, split, series = index.made, *(os.path.join(TOP, "examples", it) for it in ("split.bundle", "series.bundles"))
+    index.ask("archive", "add", index.path, made.bundle(LIAR), split, series)
+    lines = index.ask("archive", "ask", index.path, "convictions").wrote.decode().splitlines()
+    found = [json.loads(it) for it in index.ask("archive", "ask", index.path, "convictions", "--json").wrote.splitlines()]
+    same("the warning", (len(lines), lines[0].startswith("No admission shows these runs")), (len(found) + 1, True))
+    same("nodes and generals", [(it["node"], it["general"]) for it in found], [(None, 0)] * 4)
+    same("roots", sorted(collections.Counter(it["root"] for it in found).values()), [1, 1, 2])
+    write(made.path("names.toml"), b'0 = "North pump"\n')
+    for of in (index.path, split):
+        text = page_of(index, of, "--names", made.path("names.toml"))
+        if "North pump" in text:
+            raise Wrong(f"the page on {of} names a general that nobody knows")
+    text = Looked(page_of(index, index.path)).text
+    same("how often the page counts runs", re.findall(r"the holder of the root \w{16}\.\.(?: in (\d) runs)?", text).count("2"), 1)
+    same("what stands first", text.index("No admission shows these runs") < text.index("Signatures convict"), True)
+
+
+def try_commands(index, tally):
+    """The commands of pages by which others check convictions make evidence, and it holds."""
+    if lacks := lacking("zstd"):
+        tally.note(f"left out: the commands that check convictions, since {lacks} is not there")
+        return
+    made, series = index.made, os.path.join(TOP, "examples", "series.bundles")
+    os.makedirs(made.path("tools"), exist_ok=True)
+    os.symlink(os.path.abspath(made.program), made.path("tools", "sm_tool"))
+    path = {**os.environ, "PATH": f"{made.path('tools')}:{os.environ['PATH']}"}
+    for of, count in ((index.path, 1), (made.bundle(LIAR), 1), (series, 1)):
+        lines = Looked(page_of(index, of)).text.splitlines()
+        told = [it for it in lines if it.startswith(("sm_tool ", "zstd -dc "))]
+        end = run("/bin/sh", ["-ec", "\n".join(told)], cwd=made.folder, env=path)
+        same(f"the commands of the page on {of}", (len(told), end.status, end.wrote), (2 * count, 0, b"evidence holds\n" * count))
 
 
 def try_signing(index, tally):
@@ -440,6 +477,8 @@ def try_all(program, made, other, tally, runs):
         try_sources(index)
         try_page(whole)
         try_file_page(index)
+        try_numberless(Index(program, made, "numberless"))
+        try_commands(whole, tally)
         try_signing(index, tally)
         try_changes(index)
         try_shown(program, made.folder)

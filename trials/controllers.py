@@ -1,6 +1,6 @@
 """Four nodes that go on (vamuretu node), and a watcher (vamuretu watch), with a node killed, one halted, and one whose clock is set back: nobody signs twice, and all decide alike.
 
-The nodes talk over mutual TLS where `openssl` is there, and over plain connections otherwise. An application at each node
+The nodes talk over mutual TLS, each by its key. An application at each node
 proposes in the node's turns, and hears all decisions. All nodes that decide a run in time decide alike, and each node has a
 decision from the run on that begins after it was started again. The log of each run that each node kept is judged by the
 program: it agrees with nobody listed but those that have no log or were late, and convicts nobody. So nobody signed a slot
@@ -70,20 +70,9 @@ class Plan:
     is_tls: bool = True
 
 
-def make_certificates(folder, nodes):
-    """Keys and certificates of all nodes, signed by an authority of this trial."""
-    new = ["openssl", "req", "-x509", "-newkey", "ec", "-pkeyopt", "ec_paramgen_curve:P-256", "-nodes", "-days", "2"]
-    authority = ["-keyout", "authority.key", "-out", "authority.crt", "-subj", "/CN=a trial"]
-    do([*new, *authority, "-addext", "basicConstraints=critical,CA:TRUE"], cwd=folder)
-    for name in [*(f"node-{node}" for node in range(nodes)), "watcher"]:
-        signed = ["-CA", "authority.crt", "-CAkey", "authority.key", "-subj", f"/CN={name}"]
-        named = ["-addext", f"subjectAltName=DNS:{name}", "-addext", "basicConstraints=critical,CA:FALSE"]
-        do([*new, "-keyout", f"{name}.key", "-out", f"{name}.crt", *signed, *named], cwd=folder)
-
-
-def has_openssl():
-    """Whether openssl signs certificates by one command, as from version 3 on."""
-    return bool(shutil.which("openssl")) and "-CA " in run("openssl", ["req", "-help"]).said.decode()
+def named(node):
+    """The name of a node in those of files."""
+    return f"node-{node}"
 
 
 class Process:
@@ -93,6 +82,10 @@ class Process:
         """The memory that is the process's own, in KiB: without the pages of its program and of libraries."""
         with open(f"/proc/{self.process.pid}/status", encoding="ascii") as file:
             return int(next(line for line in file if line.startswith("RssAnon")).split()[1])
+
+    def descriptors(self):
+        """How many files and connections are open."""
+        return len(os.listdir(f"/proc/{self.process.pid}/fd"))
 
 
 class Node(Process):
@@ -191,13 +184,12 @@ class Made:
 
     def __init__(self, tool, program, folder, plan=Plan(), places=None):
         self.tool, self.program, self.folder, self.plan = tool, program, folder, plan
-        self.is_tls, self.shim = plan.is_tls and has_openssl(), os.path.join(folder, "steps.so")
+        self.is_tls, self.shim = plan.is_tls, os.path.join(folder, "steps.so")
         self.places = places or Loopback(plan.nodes + 1)
         os.mkdir(os.path.join(folder, "bin"))
         os.symlink(tool, os.path.join(folder, "bin", "sm_tool"))
         do(["cc", "-shared", "-fPIC", "-O2", os.path.join(TOP, "trials", "steps.c"), "-o", self.shim, "-ldl"])
-        if self.is_tls:
-            make_certificates(folder, plan.nodes)
+        self.pins = self.make_keys() if self.is_tls else {}
         self.id = "0" * 64
         self.make_roots()
         self.start = int(time.time() * 1000) + plan.ahead
@@ -205,6 +197,7 @@ class Made:
         self.make_system()
         self.write_configs()
         for node in range(plan.nodes):
+            os.makedirs(os.path.dirname(self.state_of(node)), exist_ok=True)
             self.keep(node)
             os.remove(self.path(f"{node}.secret"))
         self.nodes = [self.kind_of_node(self, node) for node in range(plan.nodes)]
@@ -218,9 +211,18 @@ class Made:
         """The folder of the logs of a node."""
         return self.path(f"{node}.spool")
 
+    def state_of(self, node):
+        """The file of the state of a node, in a folder of its own."""
+        return self.path(f"{node}/{node}.state")
+
     def write(self, name, data, mode=0o600):
         with open(os.open(self.path(name), os.O_WRONLY | os.O_CREAT | os.O_TRUNC, mode), "wb") as file:
             file.write(data)
+
+    def make_keys(self):
+        """The keys of all connections, and the pin of each by its name."""
+        ends = {name: run(self.program, ["key", self.path(f"{name}.key")]) for name in (*map(named, range(self.plan.nodes)), "watcher")}
+        return {name: end.wrote.decode().strip() for name, end in ends.items()}
 
     def make_roots(self):
         secrets = [os.urandom(32) for _ in range(self.plan.nodes)]
@@ -249,30 +251,40 @@ class Made:
             self.write(f"{node}.toml", self.config_of(node).encode())
         listen = f'listen = "{self.places.listen(self.plan.nodes)}"'
         lines = ["[watch]", listen, 'folder = "archive"', 'database = "archive/index.sqlite"']
-        lines += [f"deadline_ms = {self.plan.deadline}", *self.of_system(), *self.of_connections("watcher"), *self.of_clock()]
+        lines += [f"deadline_ms = {self.plan.deadline}", *self.of_system(), *self.of_key("watcher"), *self.of_clock()]
+        lines += self.of_orders()
+        for node in range(self.plan.nodes):
+            lines += ["[[nodes]]", f"number = {node}", *self.of_pin(named(node))] if self.is_tls else []
         self.write("watch.toml", "".join(f"{line}\n" for line in lines).encode())
 
     def of_system(self):
         roots = ", ".join(f'"{it}.roots"' for it in range(self.plan.nodes))
         return ["[system]", 'file = "system"', f'id = "{self.id}"', f"roots = [{roots}]"]
 
-    def of_connections(self, name):
-        keys = ["[tls]", f'certificate = "{name}.crt"', f'key = "{name}.key"', 'authority = "authority.crt"']
-        return keys if self.is_tls else []
+    def of_key(self, name):
+        """The lines of the key of an end of connections."""
+        return ["[key]", f'file = "{name}.key"'] if self.is_tls else []
+
+    def of_pin(self, name):
+        """The line by which others know this key."""
+        return [f'keys = ["{self.pins[name]}"]'] if self.is_tls else []
 
     def of_clock(self):
         lines = ["[clock]", 'source = "assumed"', f"start = {self.start}", f"period_ms = {self.plan.period}"]
         return [*lines, f"round_ms = {self.plan.round}", f"bound_ms = {self.plan.bound}"]
 
+    def of_orders(self):
+        return ["[orders]", *(f"{name} = {order}" for name, order in ORDERS.items())]
+
     def config_of(self, node, **other):
         """The configuration of a node."""
         lines = [*self.of_system(), "[node]", f"number = {node}"]
-        lines += [f'state = "{node}.state"', f'spool = "{node}.spool"', f'listen = "{self.places.listen(node)}"']
+        lines += [f'state = "{node}/{node}.state"', f'spool = "{node}.spool"', f'listen = "{self.places.listen(node)}"']
         for peer in set(range(self.plan.nodes)) - {node}:
-            lines += ["[[peers]]", f"number = {peer}", f'address = "{self.places.listen(peer)}"']
-        lines += ["[[watchers]]", f'address = "{self.places.listen(self.plan.nodes)}"', *self.of_connections(f"node-{node}")]
-        lines += self.of_clock()
-        lines += ["[orders]", *(f"{name} = {order}" for name, order in ORDERS.items())]
+            lines += ["[[peers]]", f"number = {peer}", f'address = "{self.places.listen(peer)}"', *self.of_pin(named(peer))]
+        lines += ["[[watchers]]", f'address = "{self.places.listen(self.plan.nodes)}"', *self.of_pin("watcher")]
+        lines += self.of_key(named(node))
+        lines += [*self.of_clock(), *self.of_orders()]
         lines += ["[local]", f'socket = "{node}.socket"', "[metrics]", f'address = "{self.places.metrics(node)}"']
         lines += ["[spool]", "days = 1", f"most_bytes = {1 << 30}"]
         text = "".join(f"{line}\n" for line in lines)
@@ -526,7 +538,7 @@ def files_wrong(made):
     table = made.config_of(0).replace("close = 1", "shut = 1")
     cases = [(3, table), (3, made.config_of(0, period_ms="333")), (3, made.config_of(0, number="9"))]
     cases += [(3, made.config_of(0, id=f'"{"1" * 64}"')), (3, "x"), (5, made.config_of(0, state='"none.state"'))]
-    cases += [(3, made.config_of(0, state='"0.roots"')), (3, made.config_of(0, state='"1.state"'))]
+    cases += [(3, made.config_of(0, state='"0.roots"')), (3, made.config_of(0, state='"1/1.state"'))]
     for status, text in cases:
         made.write("wrong.toml", text.encode())
         end = run(made.program, ["node", made.path("wrong.toml")], env={**os.environ, **made.env_of(0)})
@@ -535,9 +547,10 @@ def files_wrong(made):
     made.write("again.secret", bytes(32))
     if run(made.program, ["keep", node.config, made.path("again.secret")]).status != 3:
         return "a second state was made"
-    with open(made.path("0.lock"), "ab") as lock:
-        fcntl.flock(lock, fcntl.LOCK_EX)
-        end = run(made.program, ["node", node.config], env={**os.environ, **made.env_of(0)})
+    folder = os.open(os.path.dirname(made.state_of(0)), os.O_RDONLY)
+    fcntl.flock(folder, fcntl.LOCK_EX)
+    end = run(made.program, ["node", node.config], env={**os.environ, **made.env_of(0)})
+    os.close(folder)
     return None if end.status == 1 and b"another process" in end.said else f"a second process ended with {end}"
 
 
@@ -573,7 +586,7 @@ def try_system(tally, made):
     tally.hold("memory", None if after <= before + GROWS else f"it grew to {last} KiB, from {middle}")
     tally.hold("wrong files", files_wrong(made))
     tally.hold("the bound of a spool", bound_wrong(made))
-    tally.note(f"{'mutual TLS' if made.is_tls else 'plain connections: openssl is not here'}; memory {last} KiB")
+    tally.note(f"memory {last} KiB")
 
 
 def trials(program, tally):

@@ -218,6 +218,16 @@ def seeds_wrong(keeper, folder):
         write(folder, name, own)
         if refused.status != 1:
             return f"{name} with {bad.hex()}: {refused}"
+    for name in (STATE, MARK):
+        of_name, kept = (os.path.join(folder, it) for it in (name, "kept"))
+        os.rename(of_name, kept)
+        for link in (os.symlink, os.link):
+            link(kept, of_name)
+            linked = take(6, 4)
+            os.remove(of_name)
+            if linked.status != 1 or b"plain file" not in linked.said:
+                return f"{name} by {link}: {linked}"
+        os.rename(kept, of_name)
     os.chmod(os.path.join(folder, STATE), 0o640)
     open_to_all = take(6, 4)
     os.chmod(os.path.join(folder, STATE), 0o600)

@@ -5,10 +5,12 @@
 
 takes the place of the node with the greatest number, which connects to all others. PLAN is an object of JSON, whose members
 are those of Plan. It has two nodes of one seed in each run, which follow the algorithm, with
-another order each where they have one. It hands out no log. The last line has the numbers of the runs in which it told both
+another order each where they have one. It hands out no log, and puts three of each run in which it proposes into a folder, if
+PLAN has one: of the two nodes, and of a third that has heard nothing. The last line has the numbers of the runs in which it told both
 orders. The package of embed/python is used, whose libraries VAMURETU_LIBRARIES names.
 """
 import contextlib
+import hashlib
 import json
 import os
 import select
@@ -38,7 +40,9 @@ class Plan(NamedTuple):
 
     number: int
     peers: list
-    tls: Optional[str]
+    # The file of its key, and the pin of each peer, where connections are not plain.
+    key: Optional[str]
+    pins: list
     system: str
     id: str
     roots: list
@@ -48,6 +52,7 @@ class Plan(NamedTuple):
     round: int
     first: int
     last: int
+    logs: Optional[str] = None
 
 
 class Peer:
@@ -62,7 +67,7 @@ class Peer:
         """Connects, and says who is here."""
         connected = socket.create_connection(self.address, timeout=PATIENCE)
         connected.setsockopt(socket.IPPROTO_TCP, socket.TCP_NODELAY, 1)
-        stream = self.secured(self.plan, connected) if self.plan.tls else connected
+        stream = self.secured(self.plan, connected) if self.plan.key else connected
         # Two threads may not be within one stream of TLS, so none waits there.
         stream.setblocking(False)
         self.stream, self.come = stream, b""
@@ -70,10 +75,12 @@ class Peer:
 
     def secured(self, plan, connected):
         context = ssl.SSLContext(ssl.PROTOCOL_TLS_CLIENT)
-        context.load_verify_locations(os.path.join(plan.tls, "authority.crt"))
-        own = os.path.join(plan.tls, f"node-{plan.number}")
-        context.load_cert_chain(f"{own}.crt", f"{own}.key")
-        return context.wrap_socket(connected, server_hostname=f"node-{self.number}")
+        context.check_hostname, context.verify_mode = False, ssl.CERT_NONE
+        context.load_cert_chain(plan.key)
+        stream = context.wrap_socket(connected)
+        if hashlib.sha256(stream.getpeercert(binary_form=True)).hexdigest() != plan.pins[self.number]:
+            raise ConnectionError("another key")
+        return stream
 
     def write(self, kind, body):
         data = struct.pack(">I", 1 + len(body)) + kind + body
@@ -148,13 +155,13 @@ class Liar:
         self.peers = {number: Peer(plan, number, address, self.runs) for number, address in enumerate(plan.peers)}
 
     def prepared(self, number):
-        """The header of a run with its nodes, and two sets of keys of one seed."""
+        """The header of a run with its nodes, and three sets of keys of one seed."""
         of = number // SLOTS
         if of not in self.keys:
             admission = vamuretu.admission(number, self.system, self.files)
             self.state = self.state.advance_to(of)
             seed = self.state.seed(self.plan.id)
-            self.keys[of] = admission, vamuretu.Keys(seed, 2), vamuretu.Keys(seed, 2)
+            self.keys[of] = admission, *(vamuretu.Keys(seed, 2) for _ in (*ORDERS, "deaf"))
         admission, *keys = self.keys[of]
         return vamuretu.admit(number, admission, system=self.plan.id), keys
 
@@ -179,9 +186,28 @@ class Liar:
                 self.hear(it, others, frames)
                 it.end_round()
         self.runs.forget(header.run_id)
-        self.told += [number] if of[0] == self.plan.number else []
+        if of[0] == self.plan.number:
+            self.told += [number]
+            self.keep(number, header, nodes)
         for it in nodes:
             it.close()
+
+    def keep(self, number, header, nodes):
+        """Writes the logs of all nodes of a run, and of one more that hears nothing."""
+        if not self.plan.logs:
+            return
+        os.makedirs(self.plan.logs, exist_ok=True)
+        deaf = vamuretu.Node(header, 0, self.keys[number // SLOTS][-1], ORDERS[0])
+        for _ in range(header.rounds):
+            deaf.begin_round()
+            deaf.end_round()
+        for at, it in enumerate((*nodes, deaf)):
+            it.finish()
+            path = os.path.join(self.plan.logs, f"{number}.{at}.log")
+            with open(f"{path}.new", "wb") as file:
+                file.write(it.log())
+            os.replace(f"{path}.new", path)
+        deaf.close()
 
     def hear(self, node, others, frames):
         for general, of in others:

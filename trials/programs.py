@@ -58,7 +58,7 @@ def count_cores():
 def commands_of(program):
     """The commands of the program, by its own help: those of its section of commands, which ends with an empty line."""
     section = run(program, ["--help"]).wrote.decode().partition("\nCommands:\n")[2].partition("\n\n")[0]
-    return set(re.findall(r"^ {2}(\w+)", section, re.M))
+    return set(re.findall(r"^ {2}([\w-]+)", section, re.M))
 
 
 def spell(words):

@@ -2,10 +2,11 @@
 
 The small repository has the scripts of this one, a library whose function returns a number, and a program sm_tool that prints
 it for each line of its input. A source is edited while the program is being proved, and the edit is taken back: whatever was
-built then, the edited number is not printed as a proved answer, and the next use proves the library again. Without a proved
-program the script answers by the program compiled without proofs, and says so. The built program itself is not used.
+built then, the edited number is not printed as a proved answer, and the next use proves the library again. The built program
+itself is not used.
 
-In a copy of the script and the reference alone, without the kit on the path, the reference answers, and two lines say so.
+In a copy of the script and the reference alone the reference answers, with the kit on the path and without it, and two lines
+say so. No program of the kit is started.
 """
 import os
 import shutil
@@ -17,9 +18,6 @@ import time
 from programs import run
 
 TOP = os.path.dirname(os.path.dirname(os.path.abspath(__file__)))
-sys.path.insert(0, os.path.join(TOP, "tools"))
-import unproved  # noqa: E402
-
 SCRIPTS = ["sm_tool", "prove", "tools"]
 # The library and the program, with the number that is edited.
 NUMBER, EDITED = b"1982\n", b"2891\n"
@@ -55,19 +53,14 @@ fn main(rt: HostRuntime) -> io::Result<()> {
 # In steps of this many seconds it is looked whether the toolchain has begun with the library, and for at most so many steps. It
 # has read the sources some seconds later, and is still at work.
 PAUSE, PAUSES, READ = 0.1, 3000, 4
-UNPROVED, PROVED_ALONE = b"not proved on this machine", {"SM_TOOL_PROVED": "1"}
+PROVED_ALONE = {"SM_TOOL_PROVED": "1"}
 NOT_PROVED = 126
-# What the script wants where the kit is not there, and what it answers then: the words, and what is put for standard input.
+# What the script wants where no proved program is there, and what it answers then: the words, and what is put for standard input.
 WANTED = ("sh", "find", "readlink", "grep", "python3")
-WITHOUT_KIT = [("decide", "line.scenario"), ("decide line.scenario", None), ("audit --strict --workers 2 disputed.bundle", None)]
-WITHOUT_KIT += [("audit --json -- split.bundle", None), ("draw split.bundle", None), ("evidence", "split.bundle"), ("audit nothing", None)]
-WITHOUT_KIT += [("receipts split.receipts", None), ("accuse --receipts --general 0 split.receipts", None)]
-WITHOUT_KIT += [("answer split.evidence -", "split.bundle"), ("explain N8", None), ("run --help", None), ("help", None), ("nothing", None)]
-# Files of a folder, and for words the copies that a program without proofs is given, with the words that it then gets.
-FILES = ["a", "b/c", "d=e", "program", "-f", "4"]
-GIVEN = [("audit a", {"a": "a"}, "audit a"), ("bundle b/c 3=b/c", {"b/c": "b/c"}, "bundle b/c 3=b/c"), ("audit b -", {}, "audit b -")]
-GIVEN += [("audit d=e", {"file_1": "d=e"}, "audit file_1"), ("answer program a", {"file_1": "program", "a": "a"}, "answer file_1 a")]
-GIVEN += [("audit -f --workers 4 --run=a", {"4": "4"}, "audit -f --workers 4 --run=a"), ("audit -- -f", {"file_2": "-f"}, "audit -- file_2")]
+UNBUILT = [("decide", "line.scenario"), ("decide line.scenario", None), ("audit --strict --workers 2 disputed.bundle", None)]
+UNBUILT += [("audit --json -- split.bundle", None), ("draw split.bundle", None), ("evidence", "split.bundle"), ("audit nothing", None)]
+UNBUILT += [("receipts split.receipts", None), ("accuse --receipts --general 0 split.receipts", None)]
+UNBUILT += [("answer split.evidence -", "split.bundle"), ("explain N8", None), ("run --help", None), ("help", None), ("nothing", None)]
 
 
 def write(path, text):
@@ -133,13 +126,6 @@ def wrong_with(end, status, wrote, says=None):
     return None if well else f"status {end.status}, wrote {end.wrote[:60]!r}, said {end.said[-300:]!r}"
 
 
-def try_unproved(top, tally):
-    """Before anything is proved."""
-    tally.hold("an answer without proofs", wrong_with(ask(top), 0, NUMBER, UNPROVED))
-    end = ask(top, **PROVED_ALONE)
-    tally.hold("no answer but a proved one is wanted", wrong_with(end, NOT_PROVED, b"", b"./prove"))
-
-
 def try_edited(scripts, tally):
     """An edit that is there when the proofs begin and is taken back meanwhile, and one that is made meanwhile."""
     for name, before, meanwhile in [("taken back", EDITED, NUMBER), ("made", NUMBER, EDITED)]:
@@ -153,7 +139,8 @@ def try_edited(scripts, tally):
 
 
 def try_proved(top, tally):
-    """Proved from sources that nobody edits, and edited behind that."""
+    """Before anything is proved, proved from sources that nobody edits, and edited behind that."""
+    tally.hold("before the proofs", wrong_with(ask(top, **PROVED_ALONE), NOT_PROVED, b"", b"./prove"))
     ended = subprocess.run([os.path.join(top, "prove")], stdin=subprocess.DEVNULL, capture_output=True, check=False)
     tally.hold("prove, with no edit", None if ended.returncode == 0 else ended.stderr[-300:])
     tally.hold("a proved answer", wrong_with(ask(top, **PROVED_ALONE), 0, NUMBER))
@@ -165,8 +152,8 @@ def try_proved(top, tally):
     tally.hold("an edit behind that", wrong_with(ask(top, **PROVED_ALONE), NOT_PROVED, b"", b"./prove"))
 
 
-def copy_without_kit(place):
-    """A copy of the script with what it stands on without the kit. Returns its folder, and a path that has no kit."""
+def copy_unbuilt(place):
+    """A copy of the script with what it stands on where nothing is built. Returns its folder, and a path that has no kit."""
     top, path = os.path.join(place, "top"), os.path.join(place, "path")
     os.mkdir(path)
     for name in ("reference", "examples", "docs"):
@@ -177,52 +164,41 @@ def copy_without_kit(place):
     return top, path
 
 
-def try_without_kit(tally):
-    """The reference's answers by the script, with two lines on standard error."""
+def try_reference(top, path, named, tally):
+    """The reference's answers by the script, with two lines on standard error, of which the second has a name."""
+    examples, script = os.path.join(top, "examples"), os.path.join(top, "sm_tool")
+    for words, name in UNBUILT:
+        given = open(os.path.join(examples, name), "rb").read() if name else b""
+        end = run(script, words.split(), given, env={"PATH": path}, cwd=examples)
+        want = run(sys.executable, ["-B", os.path.join(TOP, "reference", "sm.py"), *words.split()], given, cwd=examples)
+        said = end.said.split(b"\n", 2)
+        is_told = b"not proved" in said[0] and named in said[1] and said[2] == want.said
+        is_same = is_told and (end.status, end.wrote) == (want.status, want.wrote)
+        tally.hold(f"by the reference: {words}", None if is_same else f"{end}, and the reference {want}")
+    end = run(script, ["help"], env={"PATH": path, **PROVED_ALONE})
+    tally.hold("only a proved answer is wanted", wrong_with(end, NOT_PROVED, b"", b"./prove"))
+
+
+def try_unbuilt(tally):
+    """Where no program was built: without the kit, with a kit that must not be started, and without Python."""
     with tempfile.TemporaryDirectory() as place:
-        top, path = copy_without_kit(place)
-        examples, script = os.path.join(top, "examples"), os.path.join(top, "sm_tool")
-        for words, name in WITHOUT_KIT:
-            given = open(os.path.join(examples, name), "rb").read() if name else b""
-            end = run(script, words.split(), given, env={"PATH": path}, cwd=examples)
-            want = run(sys.executable, ["-B", os.path.join(TOP, "reference", "sm.py"), *words.split()], given, cwd=examples)
-            said = end.said.split(b"\n", 2)
-            is_told = b"not proved" in said[0] and b"INSTALL.md" in said[1] and said[2] == want.said
-            is_same = is_told and (end.status, end.wrote) == (want.status, want.wrote)
-            tally.hold(f"without the kit: {words}", None if is_same else f"{end}, and the reference {want}")
-        end = run(script, ["help"], env={"PATH": path, **PROVED_ALONE})
-        tally.hold("without the kit, but a proved answer is wanted", wrong_with(end, NOT_PROVED, b"", b"./prove"))
+        top, path = copy_unbuilt(place)
+        try_reference(top, path, b"INSTALL.md", tally)
+        kit = os.path.join(path, "rt")
+        write(kit, "#!/bin/sh\necho started >&2\nexit 1\n")
+        os.chmod(kit, 0o755)
+        try_reference(top, path, b"./prove", tally)
         os.remove(os.path.join(path, "python3"))
-        end = run(script, ["help"], env={"PATH": path})
-        tally.hold("with neither the kit nor Python", wrong_with(end, NOT_PROVED, b"", b"python3"))
-
-
-def try_files(tally):
-    """The files that a program without proofs is given."""
-    with tempfile.TemporaryDirectory() as place:
-        for name in FILES:
-            os.makedirs(os.path.join(place, os.path.dirname(name)), exist_ok=True)
-            write(os.path.join(place, name), "")
-        before = os.getcwd()
-        os.chdir(place)
-        for words, copies, gets in GIVEN:
-            command = unproved.command_of(words.split())
-            at = command.index("--")
-            told = dict(it.split("=", 1) for it in command[3:at:2])
-            wanted = {copy: os.path.join(os.getcwd(), name) for copy, name in copies.items()}
-            is_same = told == wanted and command[at + 1 :] == gets.split()
-            tally.hold(f"the files of {words}", None if is_same else f"{command}")
-        os.chdir(before)
+        end = run(os.path.join(top, "sm_tool"), ["help"], env={"PATH": path})
+        tally.hold("without Python", wrong_with(end, NOT_PROVED, b"", b"python3"))
 
 
 def trials(_, tally, scripts=TOP):
-    try_files(tally)
-    try_without_kit(tally)
+    try_unbuilt(tally)
     if not shutil.which("rt"):
         tally.note("left out: the Rattle kit's rt is not on the path")
         return
     try_edited(scripts, tally)
     with tempfile.TemporaryDirectory() as top:
         make_repository(top, scripts)
-        try_unproved(top, tally)
         try_proved(top, tally)

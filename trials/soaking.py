@@ -1,7 +1,7 @@
 """Four nodes that go on and a watcher, in network namespaces, with all that can go wrong: who is correct decides alike,
 nobody signs twice, and the liar is convicted.
 
-    trials/soaking.py TOOL PROGRAM RUNS PLACES
+    trials/soaking.py TOOL PROGRAM RUNS PLACES [siege]
 
 makes RUNS runs, ten a second, and its last line is a JSON object: what is wrong, and figures. bench/soak.py starts it, and
 the trial makes the runs of one cycle. Every 20 runs a node is killed. In each cycle of 200 runs packets are late or lost
@@ -11,7 +11,9 @@ nodes were faulty, all others decide alike, and the watcher agrees. Faulty is wh
 each edge that lost a frame. The watcher convicts the liar alone, in each run in which two nodes heard its two orders. It
 has each log that a node says it has stored, and the memory of each process stays level. PLACES is `wired`, which wants
 root, or `cabled`, where the kernel carries the packets and loses none, or `plain`: then the addresses are those of this
-machine, no packet is lost and no disk is full, and the trial says so.
+machine, no packet is lost and no disk is full, and the trial says so. Under a siege (siege.py) an outsider floods each door
+all the time, and beside the liar a traitor with its key floods nodes and watcher: then all is as without, and what the watcher
+refuses is blamed on the liar alone.
 """
 import collections
 import contextlib
@@ -19,6 +21,7 @@ import itertools
 import json
 import os
 import resource
+import shutil
 import signal
 import statistics
 import subprocess
@@ -30,7 +33,7 @@ import time
 import wires
 from bindings import build_libraries
 from cargo_built import build_program, node_program
-from controllers import ORDERS, Made, Node, Plan, Wrong, kept_logs
+from controllers import ORDERS, Made, Node, Plan, Wrong, kept_logs, named
 from embed import TOP, IsNotBuilt, do, source
 
 NODES, TRAITORS = 4, 1
@@ -43,6 +46,8 @@ HALTED, KILLED, LYING = 0, 1, 3
 # What begins and ends at which run of a cycle. The liar begins when it has started, some runs after the node was killed.
 LOSES, LOSES_NONE, LIES, LIES_FROM, LIES_TO, IS_BACK = 10, 40, 50, 64, 84, 92
 STEPS, STEPS_BACK, IS_FULL, IS_QUITE_FULL, HAS_ROOM, HALTS, GOES_ON = 100, 115, 140, 152, 165, 168, 195
+# When the traitor of a siege besieges all doors, and the watcher's alone: the liar is connected meanwhile.
+SIEGE = {LIES + 1: "all", LIES_FROM - 2: "watcher", LIES_TO + 1: "all", IS_BACK - 1: "nothing"}
 # Milliseconds by which packets are late, and at most later, and the part that is lost.
 LOSSES = {"late": 2.0, "later": 4.0, "lost": 0.005}
 # What is free on the small disk, and what is left for a state but not for a log; what a spool on another disk has at most.
@@ -52,12 +57,18 @@ TRIES = 100
 # What the kernel keeps of a connection at most, so that who does not read stops who writes soon.
 BUFFER = 1 << 16
 # How far ahead values are proposed, in runs; what an answer to that may take, and the end of the liar, in seconds.
-FORE, ANSWER, ANSWER_OF_LIAR = 8, 0.5, 5
+FORE, ANSWER, ANSWER_OF_LIAR, ANSWER_OF_SIEGE = 8, 0.5, 5, 20
 # By how much the memory of a process may grow from the second quarter of so many cycles to the last one, by the medians, and what
 # it may be at most, in KiB.
 GROWS, CYCLES, MOST = 1024, 8, 32_768
+# The same of open files.
+FILES_GROW, MOST_FILES = 16, 512
+# What a siege has done in the end.
+BESIEGES = {"outsider": ("connects", "shows", "asks"), "traitor": ("reconnects", "floods", "brings")}
 # Of so many runs at least one has at most m faulty nodes, however busy the machine is.
 LEAST = 20
+# How many certificates an outsider shows.
+CHAIN = 30
 # The runs that a system has beyond those that are tried.
 MORE = 200
 
@@ -92,6 +103,9 @@ class System(Made):
             own = {"state": f'"disk/{node}.state"', "spool": f'"disk/{node}.spool"'}
         return super().config_of(node, **own, **other)
 
+    def state_of(self, node):
+        return self.path(f"disk/{node}.state") if self.has_disk(node) else super().state_of(node)
+
     def spool_of(self, node):
         return self.path(f"disk/{node}.spool") if self.has_disk(node) else super().spool_of(node)
 
@@ -116,26 +130,49 @@ class System(Made):
     def liar(self, first, last, libraries):
         """Starts the liar for some runs."""
         peers = [self.places.listen(node).split(":") for node in range(LYING)]
-        plan = {"number": LYING, "peers": peers, "tls": self.folder if self.is_tls else None, "system": self.path("system")}
+        plan = {"number": LYING, "peers": peers, "system": self.path("system")}
+        plan |= {"key": self.path(f"{named(LYING)}.key") if self.is_tls else None, "pins": [self.pins.get(named(it)) for it in range(LYING)]}
         roots = [self.path(f"{node}.roots") for node in range(NODES)]
-        plan |= {"id": self.id, "roots": roots, "state": self.path(f"{LYING}.state")}
-        plan |= {"start": self.start, "period": PERIOD, "round": ROUND, "first": first, "last": last}
-        words = [*self.places.inside(LYING), sys.executable, "-B", os.path.join(TOP, "trials", "liar.py")]
-        how = {"stdin": subprocess.PIPE, "stdout": subprocess.PIPE, "text": True}
-        started = subprocess.Popen(words, **how, env={**os.environ, "VAMURETU_LIBRARIES": libraries})
+        plan |= {"id": self.id, "roots": roots, "state": self.state_of(LYING)}
+        plan |= {"start": self.start, "period": PERIOD, "round": ROUND, "first": first, "last": last, "logs": self.path("lies")}
+        started = self.besieger(LYING, ["liar.py"], {**os.environ, "VAMURETU_LIBRARIES": libraries})
         started.stdin.write(json.dumps(plan))
         started.stdin.close()
         started.stdin = None
+        return started
+
+    def besieger(self, place, words, env=None):
+        """A program of these trials that is started in a place."""
+        name, *words = words
+        how = {"stdin": subprocess.PIPE, "stdout": subprocess.PIPE, "text": True, "env": env}
+        return subprocess.Popen([*self.places.inside(place), sys.executable, "-B", os.path.join(TOP, "trials", name), *words], **how)
+
+    def siege(self, kind):
+        """Starts the outsider or the traitor of a siege."""
+
+        def door(text):
+            host, port = text.rsplit(":", 1)
+            return host, int(port)
+
+        nodes, is_outside = [door(self.places.listen(node)) for node in range(LYING)], kind == "outsider"
+        doors = {"nodes": nodes + [door(self.places.listen(LYING))] * is_outside, "watcher": door(self.places.listen(NODES))}
+        doors |= {"metrics": [door(self.places.metrics(node)) for node in range(NODES)], "sockets": [self.path(f"{node}.socket") for node in range(NODES)]}
+        doors |= {"chain": self.path("chain"), "source": None if self.places.is_wired else "127.0.0.2", "number": LYING}
+        doors |= {"key": self.path(f"{named(LYING)}.key") if self.is_tls else None, "id": self.id, "spool": self.spool_of(HALTED), "logs": self.path("lies")}
+        started = self.besieger(NODES + 1 if is_outside else LYING, ["siege.py", kind])
+        started.stdin.write(json.dumps(doors) + "\n")
+        started.stdin.flush()
         return started
 
 
 class Soak:
     """The runs, and what happens to the nodes."""
 
-    def __init__(self, made, libraries, runs):
+    def __init__(self, made, libraries, runs, is_besieged=False):
         self.made, self.libraries, self.runs, self.ends = made, libraries, runs, threading.Event()
+        self.siege, self.is_besieged = {}, is_besieged
         self.liar, self.lied, self.lying, self.ended, self.kills = None, set(), set(), [], 0
-        self.memory = collections.defaultdict(list)
+        self.memory, self.files = collections.defaultdict(list), collections.defaultdict(list)
         # What is done at a run of a cycle, by its number.
         self.does = {LOSES: lambda _: made.places.set(**LOSSES), LOSES_NONE: lambda _: made.places.set(), LIES: self.lie}
         self.does |= {IS_BACK: self.come_back, STEPS: lambda _: made.step(-60_000), STEPS_BACK: lambda _: made.step(0)}
@@ -180,6 +217,7 @@ class Soak:
             # A process that has just ended has no memory.
             with contextlib.suppress(OSError, StopIteration):
                 self.memory[name].append((number, it.memory()))
+                self.files[name].append((number, it.descriptors()))
 
     def propose(self):
         """The applications, until the runs are over."""
@@ -199,6 +237,8 @@ class Soak:
             it.start()
         for node in self.made.nodes:
             node.connect().close()
+        if self.is_besieged:
+            self.siege = {kind: self.made.siege(kind) for kind in ("outsider", "traitor")}
         applications = threading.Thread(target=self.propose)
         applications.start()
         first = self.made.number_now() + FORE
@@ -207,6 +247,8 @@ class Soak:
                 self.made.await_run(number)
                 at = (number - first) % CYCLE
                 self.does.get(at, lambda _: None)(number)
+                if self.siege and at in SIEGE:
+                    self.besiege("traitor", SIEGE[at])
                 if at % EVERY == 0 and number > first:
                     self.made.nodes[KILLED].kill()
                     self.made.nodes[KILLED].start()
@@ -216,7 +258,18 @@ class Soak:
         finally:
             self.ends.set()
             applications.join()
+        self.siege = {kind: self.end_siege(it) for kind, it in self.siege.items()}
         return first
+
+    def besiege(self, kind, word):
+        """Tells a besieger what to do. One that has ended is an error of the trial."""
+        self.siege[kind].stdin.write(f"{word}\n")
+        self.siege[kind].stdin.flush()
+
+    def end_siege(self, started):
+        """What a besieger has done, counted."""
+        told, _ = started.communicate(timeout=ANSWER_OF_SIEGE)
+        return json.loads(told)
 
 
 def lists_of(told, musts):
@@ -289,8 +342,9 @@ def convictions_wrong(soak):
     return wrong, len(found)
 
 
-def memory_wrong(soak, first):
-    """What is wrong with the memory: in the last quarter of the cycles a process has more than in the second one, or too much."""
+def levels_wrong(soak, first, all_held, what, grows, limit):
+    """What is wrong with the memory or the open files: in the last quarter of the cycles a process has more than in the second
+    one, or too much."""
     figures, wrong, cycles = {}, [], soak.runs // CYCLE
 
     def level(held, part):
@@ -298,12 +352,22 @@ def memory_wrong(soak, first):
         return round(statistics.median([it for number, it in held if (number - first) // CYCLE in part] or [0]))
 
     quarters = [range(cycles * at // 4, cycles * (at + 1) // 4) for at in range(4)]
-    for name, held in soak.memory.items():
+    for name, held in all_held.items():
         levels, most = [level(held, part) for part in quarters], max(it for _, it in held)
         figures[name] = {"by quarters": levels, "most": most}
-        wrong += [f"the memory of {name} grew so: {levels} KiB"] if cycles >= CYCLES and levels[3] > levels[1] + GROWS else []
-        wrong += [f"{name} took {most} KiB"] if most > MOST else []
+        wrong += [f"the {what} of {name} grew so: {levels}"] if cycles >= CYCLES and levels[3] > levels[1] + grows else []
+        wrong += [f"{name} took {most} of {what}"] if most > limit else []
     return wrong, figures
+
+
+def siege_wrong(soak):
+    """What is wrong with a siege: it has to have happened, and the liar alone is blamed for what was refused."""
+    if not soak.is_besieged:
+        return []
+    lacks = [name for kind, names in BESIEGES.items() for name in names if not soak.siege[kind].get(name)]
+    wrong = [f"of the siege these never happened: {lacks}"] if lacks else []
+    blamed = {node for node, in soak.made.watcher.asked("SELECT DISTINCT node FROM alarms WHERE kind = 'refused'")}
+    return wrong + ([f"for what the watcher refused {blamed} are blamed"] if soak.made.is_tls and blamed != {LYING} else [])
 
 
 def disturbed_wrong(soak, numbers):
@@ -329,12 +393,14 @@ def judge(soak, first):
     wrong, held = decisions_wrong(soak, numbers)
     of_archive, logs = archive_wrong(soak, numbers)
     of_liar, convicted = convictions_wrong(soak)
-    of_memory, memory = memory_wrong(soak, first)
+    of_memory, memory = levels_wrong(soak, first, soak.memory, "memory in KiB", GROWS, MOST)
+    of_files, files = levels_wrong(soak, first, soak.files, "open files", FILES_GROW, MOST_FILES)
     disturbed, refused = disturbed_wrong(soak, numbers)
     wrong += [f"the nodes ended with {ends}"] if any(ends) else []
     figures = {"runs": soak.runs, "at most m faulty": held, "lies": len(soak.lied), "convictions": convicted, "logs": logs}
-    figures |= {"kills": soak.kills, "logs refused by the disk": refused, "memory in KiB": memory}
-    return wrong + of_archive + of_liar + of_memory + disturbed, figures
+    figures |= {"kills": soak.kills, "logs refused by the disk": refused, "memory in KiB": memory, "open files": files}
+    figures |= {"siege": soak.siege} if soak.is_besieged else {}
+    return wrong + of_archive + of_liar + of_memory + of_files + disturbed + siege_wrong(soak), figures
 
 
 def levels_for(runs):
@@ -342,19 +408,35 @@ def levels_for(runs):
     return max(3, (-(-(runs + MORE) // 4) - 1).bit_length())
 
 
-def soak_in(folder, tool, program, runs, places):
+def make_chain(made):
+    """A file with a key and certificates of one name, which an outsider shows."""
+    new = ["openssl", "req", "-x509", "-newkey", "ed25519", "-nodes", "-days", "2", "-subj", "/CN=x", "-keyout", made.path("chain.key")]
+    texts = []
+    for _ in range(CHAIN if shutil.which("openssl") else 0):
+        do([*new, "-out", made.path("chain.crt")])
+        with open(made.path("chain.crt"), "rb") as file:
+            texts.append(file.read())
+    if texts:
+        with open(made.path("chain.key"), "rb") as file:
+            made.write("chain", file.read() + texts[-1] + b"".join(texts))
+
+
+def soak_in(folder, tool, program, runs, places, is_besieged=False):
     """Makes a system in a folder, and soaks it."""
     libraries = os.path.join(folder, "libraries")
     archives = {name: node_program.archive_of(TOP, name) for name in node_program.ARCHIVES}
     build_libraries(libraries, source("heap.c"), archives)
     plan = Plan(NODES, TRAITORS, levels_for(runs), PERIOD, ROUND, BOUND, DEADLINE, AHEAD)
     made = System(tool, program, folder, plan, places)
-    soak = Soak(made, libraries, runs)
+    if is_besieged:
+        make_chain(made)
+    soak = Soak(made, libraries, runs, is_besieged)
     try:
         first = soak.go()
         wrong, figures = judge(soak, first)
     finally:
-        for it in filter(None, [*(it.process for it in (*made.nodes, made.watcher)), soak.liar]):
+        besiegers = [it for it in soak.siege.values() if isinstance(it, subprocess.Popen)]
+        for it in filter(None, [*(it.process for it in (*made.nodes, made.watcher)), soak.liar, *besiegers]):
             if it.poll() is None:
                 it.kill()
                 it.wait()
@@ -364,13 +446,13 @@ def soak_in(folder, tool, program, runs, places):
 
 
 def main():
-    tool, program, runs, kind = sys.argv[1:]
+    tool, program, runs, kind, *siege = sys.argv[1:]
     with tempfile.TemporaryDirectory(dir="/tmp") as folder:
         kinds = {"wired": wires.Wires, "cabled": wires.Cables, "plain": lambda _, count: wires.Loopback(count)}
-        places = kinds[kind](folder, NODES + 1)
+        places = kinds[kind](folder, NODES + 1 + len(siege))
         places.hold(BUFFER)
         try:
-            told = soak_in(folder, tool, program, int(runs), places)
+            told = soak_in(folder, tool, program, int(runs), places, bool(siege))
         except (Wrong, IsNotBuilt, OSError) as why:
             told = {"wrong": [f"{why}"], "figures": {}}
         finally:
@@ -380,10 +462,11 @@ def main():
     print(json.dumps(told), flush=True)
 
 
-def soaked(tool, program, runs, kind="wired"):
+def soaked(tool, program, runs, kind="wired", is_besieged=False):
     """What comes of so many runs, in namespaces of their own if these are to be had; and what lacks for that."""
     lacks = wires.what_lacks()
     words = [sys.executable, "-B", os.path.abspath(__file__), tool, program, str(runs), "plain" if lacks else kind]
+    words += ["siege"] if is_besieged else []
     how = {"stdin": subprocess.DEVNULL, "stdout": subprocess.PIPE}
     end = subprocess.run(words if lacks else wires.as_root(words), **how, check=False)
     lines = end.stdout.decode().splitlines()

@@ -109,13 +109,17 @@ static void put_in_place(const char *folder, const char *name) {
     sync_folder(folder);
 }
 
-/* A secret file of so many bytes, which its owner alone may read. */
-static void read_secret(const char *folder, const char *name, uint8_t *secret, size_t length) {
+/* A plain file with one name, of so many bytes, that others don't have the rights of this mode on. The next state would be put
+   into the place of a link. */
+static void read_kept(const char *folder, const char *name, mode_t refused, uint8_t *bytes, size_t length) {
+    char path[100];
     struct stat state;
+    path_in(path, folder, name);
+    if (lstat(path, &state) != 0) give_up(path);
+    if (!S_ISREG(state.st_mode) || state.st_nlink != 1) refuse("no plain file with one name", path);
+    if ((state.st_mode & refused) != 0) refuse("others may use it: its mode has to be 600", path);
     FILE *file = open_file(folder, name, "rb");
-    if (fstat(fileno(file), &state) != 0) give_up(name);
-    if ((state.st_mode & 077) != 0) refuse("others may use it: its mode has to be 600", name);
-    read_to_end(file, name, secret, length);
+    read_to_end(file, name, bytes, length);
     fclose(file);
 }
 
@@ -214,16 +218,14 @@ static void advance(uint8_t record[SM_STATE_BYTES], uint32_t set) {
 
 /* The record as its file has it. */
 static void read_state(const struct kept *kept, uint8_t record[SM_STATE_BYTES]) {
-    read_secret(kept->folder, kept->state, record, SM_STATE_BYTES);
+    read_kept(kept->folder, kept->state, 077, record, SM_STATE_BYTES);
     if (memcmp(record + SYSTEM_AT, kept->system, SM_SYSTEM_ID_BYTES) != 0) refuse("of another system", kept->state);
 }
 
 /* The number of the mark. */
 static uint32_t read_mark(const struct kept *kept) {
     uint8_t mark[SM_STATE_BYTES] = {0};
-    FILE *file = open_file(kept->marks, kept->mark, "rb");
-    read_to_end(file, kept->mark, mark, MARK_BYTES);
-    fclose(file);
+    read_kept(kept->marks, kept->mark, 0, mark, MARK_BYTES);
     if (memcmp(mark + NUMBER_BYTES, kept->system, SM_SYSTEM_ID_BYTES) != 0) refuse("of another system", kept->mark);
     return set_of(mark);
 }

@@ -5,10 +5,11 @@ seals two logs, a frame is lost, logs are late, missing, or all missing. Connect
 logs that others sealed, and a third log of one node. The index, the verdicts, the evidence and the alarms are compared with
 what the runs are known to be, and each verdict with the program's on the same bundle. Then another watcher gets the same logs
 and is killed again and again, once with a disk that takes nothing: each log that it has acknowledged is in its index, which
-is that of the first in the end. cargo builds the watcher; without cargo, the crates or the libraries nothing is tried.
+is that of the first in the end. An index that is lost is made again as it was, and raises no alarm but that. cargo builds the watcher; without cargo, the crates or the libraries nothing is tried.
 """
 import collections
 import concurrent.futures
+import contextlib
 import ctypes
 import ctypes.util
 import json
@@ -26,7 +27,7 @@ import urllib.request
 
 import reference  # noqa: F401
 from cargo_built import build_program
-from programs import run, side_by_side
+from programs import run
 from scenarios import everybody, scenario, scenario_lines, spell_lines
 from model.identity import read_roots, set_seed, state_after
 from model.keys import digest
@@ -37,7 +38,8 @@ from model.system import admission_of_files, system_of_text
 NODES, LEVELS, RUNS, ORDER = 4, 2, 12, 1
 EDGES = everybody(NODES)
 NUMBERS = {"traitors": 1, "diameter": 1}
-PERIOD, BOUND = 600_000, 10
+PERIOD, ROUND, BOUND = 600_000, 1000, 10
+ORDERS = {"hold": 0, "close": 1, "open": 2}
 # How long the two watchers wait for logs: the second one judges runs before all logs are there, and again.
 DEADLINES = {"one": 5000, "killed": 300}
 # General 0 of the run tells general 1 another order than the others.
@@ -58,7 +60,9 @@ TABLES = {
     "runs": "SELECT number, run_id, verdict, value, listed, others, missing, path, sha256, bytes, stored, library FROM runs "
             f"WHERE number < {RUNS} ORDER BY number",
     "logs": f"SELECT number, node, sha256, bytes, decided FROM logs WHERE number < {RUNS} ORDER BY 1, 2, 3",
-    "convictions": "SELECT number, node, kind, path FROM convictions ORDER BY 1, 2",
+    "convictions": "SELECT number, node, kind, path FROM convictions ORDER BY 1, 2, 3",
+    "stored": "SELECT number, path, sha256, node, kind FROM stored ORDER BY 1, 2",
+    "changes": "SELECT number, verdict, value, listed, missing, path, sha256, library FROM changes ORDER BY number, place",
     "waiting": "SELECT number, node, sha256 FROM waiting",
 }
 ZSTD_MARK = bytes.fromhex("28b52ffd")
@@ -103,12 +107,14 @@ def unpacked(data, size):
 class System:
     """Four nodes with identities, the files that a watcher reads, and the logs of their runs."""
 
-    def __init__(self, tool, folder):
+    def __init__(self, tool, folder, start):
+        named = [f"order {order} {name}" for name, order in ORDERS.items()]
+        context = "".join(f"{line}\n" for line in [f"start {start}", f"period {PERIOD}", f"round {ROUND}", *named, "end"])
         self.secrets = [digest(b"node %d" % node) for node in range(NODES)]
         self.files = [run(tool, ["enroll", f"--levels={LEVELS}", "--tall"], secret).wrote for secret in self.secrets]
         tops = [f"root {read_roots(it).identity().top.hex()}" for it in self.files]
         text = spell_lines([*scenario_lines(NODES, EDGES, **NUMBERS, order=0)[:-2], *tops, "end"])
-        self.system = system_of_text(text, 2, True, LEVELS, digest(b"a table of orders"))
+        self.system = system_of_text(text, 2, True, LEVELS, digest(context.encode()))
         self.id = self.system.id
         self.paths = [os.path.join(folder, f"{node}.roots") for node in range(NODES)]
         for path, data in zip([*self.paths, os.path.join(folder, "system")], [*self.files, self.system.spell()]):
@@ -183,6 +189,7 @@ class Watcher:
         self.ports = free_ports(2)
         self.environment = {**os.environ, "PATH": f"{os.path.dirname(tool)}:{os.environ['PATH']}"}
         roots = ", ".join(json.dumps(it) for it in system.paths)
+        named = "\n".join(f"{name} = {order}" for name, order in ORDERS.items())
         with open(self.path, "w", encoding="ascii") as file:
             file.write(f"""[system]
 file = "{home}/system"
@@ -197,8 +204,10 @@ deadline_ms = {DEADLINES[name]}
 source = "assumed"
 start = {start}
 period_ms = {PERIOD}
-round_ms = 1000
+round_ms = {ROUND}
 bound_ms = {BOUND}
+[orders]
+{named}
 [alarms]
 hook = "hook"
 [metrics]
@@ -339,7 +348,8 @@ def nonsense(logs, third):
 
 def try_nonsense(watcher, refused):
     """What is no log is refused, and counted by its reason. The connection of another ends."""
-    pushed = side_by_side(lambda it: watcher.push(it[0], [(it[1], it[2])]), refused)
+    # A node has few places, so each connection comes when the one before has ended.
+    pushed = [watcher.push(node, [(number, data)]) for node, number, data, _ in refused]
     same("how much nonsense was acknowledged", pushed, [0] * len(refused))
     with watcher.connect(9) as nobody, watcher.connect(0, bytes(32)) as stranger, watcher.connect(0) as silent:
         silent.sendall(message(b"F", b"a frame"))
@@ -379,6 +389,8 @@ def try_tidy(watcher):
     found = {os.path.relpath(os.path.join(at, name), kept) for at, _, names in os.walk(kept) for name in names}
     bundles = [path for path, in watcher.asked("SELECT path FROM runs WHERE path IS NOT NULL")]
     named = {*bundles, *(it.replace("bundle.zst", "verdict.json") for it in bundles)}
+    again = watcher.asked("SELECT path FROM runs WHERE path IS NOT NULL AND number IN (SELECT number FROM changes)")
+    named |= {it.replace("bundle.zst", "earlier.json") for it, in again}
     same("files", sorted(found), sorted(named | {path for *_, path in watcher.asked(TABLES["convictions"])}))
 
 
@@ -411,10 +423,35 @@ def try_one(watcher, tool, logs, refused):
         raise Wrong(f"{watcher.most_memory()} KiB of memory")
     second = subprocess.run([watcher.program, "watch", watcher.path], capture_output=True, env=watcher.environment, timeout=60)
     same("a second watcher of one index", second.returncode, 1)
+    tables = watcher.tables()
+    same("the end", watcher.end(), 0)
+    try_lost(watcher, tables)
+    return tables
+
+
+def try_lost(watcher, wanted):
+    """An index that is lost is made again of what lies in the folder: all is as it was, and no alarm is raised again."""
+    told = len(watcher.alarms())
+    for end in ("", "-wal", "-shm"):
+        with contextlib.suppress(FileNotFoundError):
+            os.remove(os.path.join(watcher.folder, f"index.sqlite{end}"))
+    watcher.start()
+    watcher.wait("an index that is made again", "SELECT count(*) FROM rebuilt WHERE ended > 0", [(1,)])
+    watcher.is_done()
+    for name, rows in watcher.tables().items():
+        same(f"the table {name} of an index that was lost", rows, wanted[name])
+    same("alarms of an index that was lost", [it["alarm"] for it in watcher.alarms()[told:]], ["rebuilt"])
+    try_tidy(watcher)
     same("the end", watcher.end(), 0)
 
 
 # ---- one that is killed
+
+
+def lasting(name, rows):
+    """Rows but for what tells when a run was judged first: the files of evidence, by the logs that were there then."""
+    rows = [(*row[:3], None) for row in rows] if name == "convictions" else rows
+    return [] if name == "changes" else [row for row in rows if name != "stored" or not row[1].endswith((".evidence", ".earlier.json"))]
 
 
 def try_killed(watcher, logs, wanted):
@@ -441,7 +478,7 @@ def try_killed(watcher, logs, wanted):
         same(f"logs of node {node} in the end", watcher.push(node, mine), len(mine))
     watcher.is_done()
     for name, rows in watcher.tables().items():
-        same(f"the table {name} after {8 + 1} kills", rows, wanted[name])
+        same(f"the table {name} after {8 + 1} kills", lasting(name, rows), lasting(name, wanted[name]))
     told = {(it["alarm"], it["run"], it["node"]) for it in watcher.alarms()}
     try_tidy(watcher)
     if not ALARMS <= told:
@@ -451,14 +488,14 @@ def try_killed(watcher, logs, wanted):
 
 def try_both(tool, program, folder):
     """Both watchers. Tells what is wrong, if something is."""
-    system = System(tool, folder)
     start = int(time.time() * 1000) - RUNS * PERIOD + PERIOD // 2
+    system = System(tool, folder, start)
     logs, third = all_logs(system)
     refused = nonsense(logs, third)
     watchers = [Watcher(program, tool, system, folder, name, start) for name in DEADLINES]
     try:
-        try_one(watchers[0], tool, logs, refused)
-        try_killed(watchers[1], logs, watchers[0].tables())
+        wanted = try_one(watchers[0], tool, logs, refused)
+        try_killed(watchers[1], logs, wanted)
     except (Wrong, KeyError, StopIteration) as wrong:
         return str(wrong)
     finally:

@@ -1,20 +1,27 @@
 //! The configuration: one TOML file for a node, and one for a watcher. Paths count from the folder of the file.
 
-use std::collections::BTreeMap;
+use std::collections::{BTreeMap, BTreeSet};
 use std::fs;
-use std::net::SocketAddr;
+use std::net::{IpAddr, SocketAddr};
 use std::path::{Path, PathBuf};
 
 use serde::de::{DeserializeOwned, Error};
 use serde::{Deserialize, Deserializer};
 
+use crate::pins::Pin;
+use crate::text::is_hidden;
 use crate::End;
 
 /// The id of a system.
 pub type Id = [u8; 32];
 
+/// The number of each order by its name.
+pub type Orders = BTreeMap<String, u8>;
+
 /// The most runs that may be under way at a time, by the timetable.
 const MOST_UNDER_WAY: u64 = 64;
+/// What Linux itself adds to its bound of the error.
+const MOST_DRIFT_PPM: u32 = 500;
 /// The orders that a header can have at most.
 const MOST_ORDERS: usize = 15;
 
@@ -46,6 +53,14 @@ pub struct Clock {
     pub round_ms: u32,
     /// How wrong the clock may be.
     pub bound_ms: u32,
+    /// How fast it goes wrong at most, in millionths, where the daemon that sets it is silent.
+    #[serde(default = "drift_ppm")]
+    pub drift_ppm: u32,
+}
+
+/// What an oscillator changes its rate by in the hour behind its measurement, with the warmth of a cabinet.
+fn drift_ppm() -> u32 {
+    4
 }
 
 /// Whose word it is that the system's clock is right.
@@ -58,15 +73,12 @@ pub enum Source {
     Assumed,
 }
 
-/// The keys of a connection: without them it is plain, and a tunnel protects it.
+/// The key of this end: without it connections are plain, and a tunnel protects them.
 #[derive(Debug, Clone, Deserialize)]
 #[serde(deny_unknown_fields)]
-pub struct Tls {
-    /// The own certificate, and what stands between it and the authority.
-    pub certificate: PathBuf,
-    pub key: PathBuf,
-    /// The certificate of whoever signed those of all nodes and watchers.
-    pub authority: PathBuf,
+pub struct Key {
+    /// The file that `vamuretu key` made.
+    pub file: PathBuf,
 }
 
 #[derive(Debug, Clone, Deserialize)]
@@ -97,14 +109,9 @@ impl Node {
 pub struct Peer {
     pub number: u32,
     pub address: SocketAddr,
-    /// The name in its certificate; without it `node-NUMBER`.
-    pub name: Option<String>,
-}
-
-impl Peer {
-    pub fn name(&self) -> String {
-        self.name.clone().unwrap_or_else(|| format!("node-{}", self.number))
-    }
+    /// The pins of its key: two while it gets another.
+    #[serde(default)]
+    pub keys: Vec<Pin>,
 }
 
 /// A watcher, to which the logs go.
@@ -112,13 +119,21 @@ impl Peer {
 #[serde(deny_unknown_fields)]
 pub struct Watcher {
     pub address: SocketAddr,
-    /// The name in its certificate.
-    #[serde(default = "watcher_name")]
-    pub name: String,
+    /// As those of a node.
+    #[serde(default)]
+    pub keys: Vec<Pin>,
 }
 
-fn watcher_name() -> String {
-    "watcher".into()
+/// A node, as a watcher knows it.
+#[derive(Debug, Clone, Deserialize)]
+#[serde(deny_unknown_fields)]
+pub struct Watched {
+    pub number: u32,
+    /// Where it connects from, if that is known.
+    pub address: Option<IpAddr>,
+    /// The pins of its key: two while it gets another.
+    #[serde(default)]
+    pub keys: Vec<Pin>,
 }
 
 #[derive(Debug, Clone, Deserialize)]
@@ -154,10 +169,10 @@ pub struct NodeFile {
     peers: Vec<Peer>,
     #[serde(default)]
     pub watchers: Vec<Watcher>,
-    pub tls: Option<Tls>,
+    pub key: Option<Key>,
     pub clock: Clock,
     /// The number of each order by its name.
-    pub orders: BTreeMap<String, u8>,
+    pub orders: Orders,
     pub local: Local,
     pub metrics: Option<Metrics>,
     pub spool: Spool,
@@ -192,14 +207,18 @@ pub struct WatchFile {
     pub system: System,
     pub watch: Watch,
     pub clock: Clock,
-    pub tls: Option<Tls>,
+    /// The number of each order by its name, as the nodes have them.
+    pub orders: Orders,
+    pub key: Option<Key>,
+    #[serde(default)]
+    pub nodes: Vec<Watched>,
     #[serde(default)]
     pub alarms: Alarms,
     pub metrics: Option<Metrics>,
 }
 
 /// 32 bytes of 64 hexadecimal digits.
-fn digits<'de, D: Deserializer<'de>>(from: D) -> Result<Id, D::Error> {
+pub fn digits<'de, D: Deserializer<'de>>(from: D) -> Result<Id, D::Error> {
     let text = String::deserialize(from)?;
     let mut id = [0; 32];
     hex::decode_to_slice(&text, &mut id)
@@ -237,13 +256,38 @@ pub trait File: DeserializeOwned {
     fn wrong(&self) -> Option<String>;
 }
 
-fn paths_of<'a>(system: &'a mut System, tls: &'a mut Option<Tls>) -> Vec<&'a mut PathBuf> {
+fn paths_of<'a>(system: &'a mut System, key: &'a mut Option<Key>) -> Vec<&'a mut PathBuf> {
     let mut paths = vec![&mut system.file];
     paths.extend(&mut system.roots);
-    if let Some(tls) = tls {
-        paths.extend([&mut tls.certificate, &mut tls.key, &mut tls.authority]);
-    }
+    paths.extend(key.as_mut().map(|key| &mut key.file));
     paths
+}
+
+/// The most pins that one end has.
+const MOST_PINS: usize = 2;
+
+/// What is wrong with the pins of the other ends, each of which has a name here.
+fn wrong_keys<'a>(key: &Option<Key>, ends: impl Iterator<Item = (String, &'a [Pin])>) -> Option<String> {
+    let mut met = BTreeSet::new();
+    for (name, keys) in ends {
+        match (key, keys.len()) {
+            (None, 1..) => return Some(format!("{name}: keys are there, and there is no [key]")),
+            (Some(_), 0) => return Some(format!("{name}: with [key] it has keys, the pin of its own")),
+            (_, count) if count > MOST_PINS => return Some(format!("{name}: keys has more than {MOST_PINS} pins")),
+            _ => {}
+        }
+        if let Some(pin) = keys.iter().find(|&&pin| !met.insert(pin)) {
+            return Some(format!("{name}: the pin {pin} is there twice"));
+        }
+    }
+    None
+}
+
+/// What is wrong with the numbers of nodes.
+fn wrong_numbers(what: &str, numbers: impl Iterator<Item = u32>, nodes: usize) -> Option<String> {
+    let mut met = BTreeSet::new();
+    let wrong = numbers.into_iter().find(|&number| number as usize >= nodes || !met.insert(number));
+    wrong.map(|number| format!("{what}: number {number} is no node's, or comes twice"))
 }
 
 impl Clock {
@@ -254,13 +298,16 @@ impl Clock {
         if u64::from(self.round_ms) * 16 > u64::from(self.period_ms) * MOST_UNDER_WAY {
             return Some(format!("[clock]: more than {MOST_UNDER_WAY} runs may be under way"));
         }
+        if !(1..=MOST_DRIFT_PPM).contains(&self.drift_ppm) {
+            return Some(format!("[clock]: drift_ppm is from 1 to {MOST_DRIFT_PPM}"));
+        }
         (self.bound_ms > self.round_ms / 4).then(|| "[clock]: bound_ms is above a quarter of a round".into())
     }
 }
 
 impl File for NodeFile {
     fn paths(&mut self) -> Vec<&mut PathBuf> {
-        let mut paths = paths_of(&mut self.system, &mut self.tls);
+        let mut paths = paths_of(&mut self.system, &mut self.key);
         paths.extend([&mut self.node.state, &mut self.node.spool, &mut self.local.socket]);
         paths.extend(&mut self.node.mark);
         paths
@@ -271,33 +318,57 @@ impl File for NodeFile {
         if !(2..=16).contains(&nodes) || self.node.number as usize >= nodes {
             return Some("[system] roots, [node] number: there is one file for each of 2 to 16 nodes".into());
         }
-        let mut met = vec![];
-        for peer in &self.peers {
-            if peer.number as usize >= nodes || met.contains(&peer.number) {
-                return Some(format!("[[peers]]: number {} is no node's, or comes twice", peer.number));
-            }
-            met.push(peer.number);
+        if let wrong @ Some(_) = wrong_numbers("[[peers]]", self.peers.iter().map(|peer| peer.number), nodes) {
+            return wrong;
         }
-        let mut numbers: Vec<usize> = self.orders.values().map(|&order| order.into()).collect();
-        numbers.sort_unstable();
-        if !(2..=MOST_ORDERS).contains(&numbers.len()) || numbers.iter().enumerate().any(|(place, &it)| place != it) {
-            return Some("[orders]: 2 to 15 names have the numbers from 0 on, each once".into());
+        if let wrong @ Some(_) = wrong_keys(&self.key, self.ends()) {
+            return wrong;
         }
-        if self.orders.keys().any(|name| name.is_empty() || name.chars().any(char::is_control)) {
-            return Some("[orders]: a name has characters, and no control character".into());
-        }
-        self.clock.wrong()
+        wrong_orders(&self.orders).or_else(|| self.clock.wrong())
     }
 }
 
+/// What is wrong with a table of orders.
+fn wrong_orders(orders: &Orders) -> Option<String> {
+    let mut numbers: Vec<usize> = orders.values().map(|&order| order.into()).collect();
+    numbers.sort_unstable();
+    if !(2..=MOST_ORDERS).contains(&numbers.len()) || numbers.iter().enumerate().any(|(place, &it)| place != it) {
+        return Some("[orders]: 2 to 15 names have the numbers from 0 on, each once".into());
+    }
+    let is_odd = |name: &String| name.is_empty() || name.contains(is_hidden);
+    orders.keys().any(is_odd).then(|| "[orders]: a name has characters, and none that is hidden".into())
+}
+
+/// The text whose SHA-256 is the context of the system: the timetable, and what the orders mean.
+pub fn context_text(clock: &Clock, orders: &Orders) -> String {
+    let Clock { start, period_ms, round_ms, .. } = clock;
+    let mut orders: Vec<(u8, &str)> = orders.iter().map(|(name, &order)| (order, name.as_str())).collect();
+    orders.sort_unstable();
+    let lines: Vec<String> = orders.iter().map(|(order, name)| format!("order {order} {name}\n")).collect();
+    format!("start {start}\nperiod {period_ms}\nround {round_ms}\n{}end\n", lines.concat())
+}
+
 impl NodeFile {
-    /// The text whose SHA-256 is the context of the system: the timetable, and what the orders mean.
+    /// The text of the context.
     pub fn context_text(&self) -> String {
-        let Clock { start, period_ms, round_ms, .. } = self.clock;
-        let mut orders: Vec<(u8, &str)> = self.orders.iter().map(|(name, &order)| (order, name.as_str())).collect();
-        orders.sort_unstable();
-        let lines: Vec<String> = orders.iter().map(|(order, name)| format!("order {order} {name}\n")).collect();
-        format!("start {start}\nperiod {period_ms}\nround {round_ms}\n{}end\n", lines.concat())
+        context_text(&self.clock, &self.orders)
+    }
+
+    /// All other ends, with the pins of each.
+    fn ends(&self) -> impl Iterator<Item = (String, &[Pin])> {
+        let peers = self.peers.iter().map(|peer| (format!("[[peers]] {}", peer.number), &peer.keys[..]));
+        peers.chain(self.watchers.iter().map(|it| (format!("[[watchers]] {}", it.address), &it.keys[..])))
+    }
+
+    /// Compares the pin of this node's key with those that its own place among the peers names, if it stands there.
+    pub fn check_pin(&self, pin: Option<Pin>) -> Result<(), End> {
+        let own = self.peers.iter().find(|peer| peer.number == self.node.number);
+        match (pin, own) {
+            (Some(pin), Some(own)) if !own.keys.contains(&pin) => {
+                Err(End::failed(format!("[key] has the pin {pin}, and [[peers]] {} names another", own.number)))
+            }
+            _ => Ok(()),
+        }
     }
 
     /// The neighbours.
@@ -313,7 +384,7 @@ impl NodeFile {
 
 impl File for WatchFile {
     fn paths(&mut self) -> Vec<&mut PathBuf> {
-        let mut paths = paths_of(&mut self.system, &mut self.tls);
+        let mut paths = paths_of(&mut self.system, &mut self.key);
         paths.extend([&mut self.watch.folder, &mut self.watch.database]);
         paths.extend(&mut self.alarms.hook);
         paths
@@ -324,7 +395,14 @@ impl File for WatchFile {
         if !(2..=16).contains(&nodes) {
             return Some("[system] roots: there is one file for each of 2 to 16 nodes".into());
         }
-        self.clock.wrong()
+        if self.key.is_some() && self.nodes.len() != nodes {
+            return Some(format!("[[nodes]]: with [key] each of {nodes} nodes is there"));
+        }
+        if let wrong @ Some(_) = wrong_numbers("[[nodes]]", self.nodes.iter().map(|node| node.number), nodes) {
+            return wrong;
+        }
+        let ends = self.nodes.iter().map(|node| (format!("[[nodes]] {}", node.number), &node.keys[..]));
+        wrong_keys(&self.key, ends).or_else(|| wrong_orders(&self.orders)).or_else(|| self.clock.wrong())
     }
 }
 
@@ -334,7 +412,8 @@ pub fn read<T: File>(path: &Path) -> Result<T, End> {
     read_text(path, &text)
 }
 
-fn read_text<T: File>(path: &Path, text: &str) -> Result<T, End> {
+/// Reads the text of a configuration, whose paths count from the folder of its file.
+pub fn read_text<T: File>(path: &Path, text: &str) -> Result<T, End> {
     let mut file: T = toml::from_str(text).map_err(|told| End::fault(path, told))?;
     let folder = path.parent().unwrap_or(Path::new(""));
     for it in file.paths() {
@@ -352,8 +431,21 @@ mod tests {
 
     const FOUR: &str = include_str!("../../examples/four/node.toml");
 
+    /// The pin that stands for an end of the example.
+    fn pin(end: char) -> String {
+        end.to_string().repeat(64)
+    }
+
+    /// An example in which each end has a key.
+    fn with_keys(example: &str) -> String {
+        let named = ['0', '1', '2', '3']
+            .into_iter()
+            .fold(example.to_string(), |text, it| text.replace(&format!("KEY-{it}"), &pin(it)));
+        named.replace("KEY-W", &pin('f'))
+    }
+
     fn four() -> String {
-        FOUR.replace("NODE", "2")
+        with_keys(&FOUR.replace("NODE", "2"))
     }
 
     #[test]
@@ -364,8 +456,9 @@ mod tests {
         assert_eq!(file.clock.start, 1_798_761_600_000);
         let text = "start 1798761600000\nperiod 1000\nround 250\norder 0 hold\norder 1 close\norder 2 open\nend\n";
         assert_eq!((file.context_text().as_str(), file.name_of(1), file.name_of(3)), (text, Some("close"), None));
-        let watch = include_str!("../../examples/four/watch.toml");
-        assert_eq!(read_text::<WatchFile>(Path::new("w.toml"), watch).expect("a configuration").clock, file.clock);
+        let watch = with_keys(include_str!("../../examples/four/watch.toml"));
+        let watch: WatchFile = read_text(Path::new("w.toml"), &watch).expect("a configuration");
+        assert_eq!(context_text(&watch.clock, &watch.orders), text);
     }
 
     #[test]
@@ -374,9 +467,12 @@ mod tests {
             ("number = 2", "number = 4"),
             ("close = 1", "close = 3"),
             ("close = 1", "close = 0"),
+            ("close = 1", "\"\\u202eclose\" = 1"),
             ("period_ms = 1000", "period_ms = 0"),
             ("round_ms = 250", "round_ms = 9000"),
             ("bound_ms = 20", "bound_ms = 63"),
+            ("drift_ppm = 4", "drift_ppm = 0"),
+            ("drift_ppm = 4", "drift_ppm = 501"),
             ("source = \"kernel\"", "source = \"nobody\""),
             ("start = 2027-01-01T00:00:00Z", "start = 2027-01-01"),
             ("period_ms = 1000", "period_ms = 1000\nperiods = 3"),
@@ -386,6 +482,33 @@ mod tests {
             let told = read_text::<NodeFile>(Path::new("2.toml"), &four().replacen(old, new, 1));
             assert_eq!(told.expect_err(new).status, 3, "{new}");
         }
+    }
+
+    #[test]
+    fn keys_are_named_once_each() {
+        let told = |text: String| read_text::<NodeFile>(Path::new("2.toml"), &text).expect_err("refused").line;
+        let (one, three) = (pin('1'), pin('3'));
+        assert!(told(four().replace(&one, &three)).contains("is there twice"));
+        assert!(
+            told(four().replace(&format!("keys = [\"{one}\"]\n"), "")).contains("[[peers]] 1: with [key] it has keys")
+        );
+        assert!(told(four().replace("[key]\nfile = \"2/key\"\n", "")).contains("there is no [key]"));
+        let more = format!("{one}\", \"{}\", \"{}", pin('a'), pin('b'));
+        assert!(told(four().replace(&one, &more)).contains("more than 2 pins"));
+        assert!(told(four().replace(&one, "1234")).contains("64 hexadecimal digits"));
+        let file: NodeFile = read_text(Path::new("2.toml"), &four()).expect("a configuration");
+        let (own, other) = (file.neighbours().next().expect("a neighbour").keys[0], file.peers[2].keys[0]);
+        assert!(
+            file.check_pin(Some(own)).is_err() && file.check_pin(Some(other)).is_ok() && file.check_pin(None).is_ok()
+        );
+        let renewed = four().replace(&one, &format!("{one}\", \"{}", pin('a')));
+        assert!(read_text::<NodeFile>(Path::new("2.toml"), &renewed).is_ok());
+        let watch = with_keys(include_str!("../../examples/four/watch.toml"));
+        let fewer = watch.replace(&format!("[[nodes]]\nnumber = 3\nkeys = [\"{three}\"]\n"), "");
+        assert!(read_text::<WatchFile>(Path::new("w.toml"), &fewer)
+            .expect_err("refused")
+            .line
+            .contains("each of 4 nodes"));
     }
 
     #[test]

@@ -1,17 +1,64 @@
-//! Files that a loss of power leaves whole: the old one or the new one.
+//! Files that a loss of power leaves whole: the old one or the new one. Folders that one process has.
 
 use std::ffi::OsString;
 use std::fs::{self, File, OpenOptions};
 use std::io::{self, Write};
-use std::os::unix::fs::OpenOptionsExt;
+use std::os::unix::fs::{MetadataExt, OpenOptionsExt};
+use std::os::unix::io::AsRawFd;
 use std::path::{Path, PathBuf};
+
+use nix::errno::Errno;
+use nix::fcntl::{flock, FlockArg};
+
+use crate::End;
 
 /// What the name of a file ends with that is not whole yet.
 pub const NEW: &str = ".new";
 
 /// The folder of a file.
-fn folder_of(path: &Path) -> &Path {
+pub fn folder_of(path: &Path) -> &Path {
     path.parent().filter(|folder| !folder.as_os_str().is_empty()).unwrap_or(Path::new("."))
+}
+
+/// A folder that no other process can take until this is dropped. The lock is on the folder itself: there is no file to take
+/// away, and it holds by each name of the folder.
+pub struct Lock(File);
+
+impl Lock {
+    /// Takes a folder.
+    pub fn take(folder: &Path) -> Result<Lock, End> {
+        let open = File::open(folder).map_err(End::file(folder))?;
+        match flock(open.as_raw_fd(), FlockArg::LockExclusiveNonblock) {
+            Ok(()) => Ok(Lock(open)),
+            Err(Errno::EWOULDBLOCK) => {
+                Err(End::failed(format!("{}: another process has this folder", folder.display())))
+            }
+            Err(told) => Err(End::unusable(folder.display(), &told.into())),
+        }
+    }
+
+    /// Takes the folders of files, each once.
+    pub fn take_all(files: &[&Path]) -> Result<Vec<Lock>, End> {
+        let mut taken: Vec<Lock> = vec![];
+        for folder in files.iter().map(|file| folder_of(file)) {
+            let told = fs::metadata(folder).map_err(End::file(folder))?;
+            let is_taken =
+                |lock: &Lock| lock.0.metadata().map_or(false, |own| (own.dev(), own.ino()) == (told.dev(), told.ino()));
+            if !taken.iter().any(is_taken) {
+                taken.push(Lock::take(folder)?);
+            }
+        }
+        Ok(taken)
+    }
+}
+
+/// Refuses what is no plain file of one name. A link is left behind when the next file is put into its place.
+pub fn refuse_links(path: &Path) -> Result<(), End> {
+    let told = fs::symlink_metadata(path).map_err(End::file(path))?;
+    match told.is_file() && told.nlink() == 1 {
+        true => Ok(()),
+        false => Err(End::fault(path, "no plain file of one name: links to it and from it are refused")),
+    }
 }
 
 /// Waits until the names in a folder are on the disk.
@@ -35,4 +82,57 @@ pub fn put(path: &Path, mode: u32, bytes: &[u8]) -> io::Result<()> {
         return Err(told);
     }
     sync_folder(folder_of(path))
+}
+
+/// Makes a file of bytes, if nothing is there. They are on the disk when this returns, and their name too.
+pub fn create(path: &Path, mode: u32, bytes: &[u8]) -> io::Result<()> {
+    let mut file = match OpenOptions::new().write(true).create_new(true).mode(mode).open(path) {
+        Err(told) if told.kind() == io::ErrorKind::AlreadyExists => return Ok(()),
+        opened => opened?,
+    };
+    if let Err(told) = file.write_all(bytes).and_then(|()| file.sync_all()) {
+        let _ = fs::remove_file(path);
+        return Err(told);
+    }
+    sync_folder(folder_of(path))
+}
+
+#[cfg(test)]
+mod tests {
+    use std::os::unix::fs::symlink;
+
+    use super::*;
+
+    fn folder(name: &str) -> PathBuf {
+        let folder = std::env::temp_dir().join(format!("vamuretu.{}.{name}", std::process::id()));
+        fs::create_dir_all(&folder).expect("a folder");
+        folder
+    }
+
+    #[test]
+    fn one_process_has_a_folder() {
+        let (one, link) = (folder("one"), std::env::temp_dir().join(format!("vamuretu.{}.link", std::process::id())));
+        symlink(&one, &link).expect("a link");
+        let held = Lock::take_all(&[&one.join("state"), &link.join("mark")]).expect("the folder, by both names");
+        assert_eq!(held.len(), 1);
+        for name in [&one, &link] {
+            assert_eq!(Lock::take(name).map(|_| ()).expect_err("a second process").status, 1);
+        }
+        drop(held);
+        assert!(Lock::take(&link).is_ok());
+        assert_eq!(Lock::take(&one.join("none")).map(|_| ()).expect_err("no folder").status, 5);
+        fs::remove_file(&link).and_then(|()| fs::remove_dir_all(&one)).expect("taken away");
+    }
+
+    #[test]
+    fn links_are_refused() {
+        let here = folder("links");
+        let status = |name: &str| refuse_links(&here.join(name)).map_or_else(|told| told.status, |()| 0);
+        put(&here.join("file"), 0o600, b"a state").expect("a file");
+        symlink("file", here.join("link")).expect("a link");
+        assert_eq!((status("file"), status("link"), status("none"), status(".")), (0, 3, 5, 3));
+        fs::hard_link(here.join("file"), here.join("second")).expect("a second name");
+        assert_eq!((status("file"), status("second")), (3, 3));
+        fs::remove_dir_all(&here).expect("taken away");
+    }
 }

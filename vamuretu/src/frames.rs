@@ -3,33 +3,44 @@
 //! A message is its length in four bytes, big-endian, which counts what follows: the kind, one byte, and the body.
 
 use std::collections::VecDeque;
-use std::fs::File;
-use std::io::{self, BufReader, ErrorKind};
+use std::future::Future;
+use std::io::{self, ErrorKind};
 use std::net::SocketAddr;
-use std::path::Path;
-use std::sync::{Arc, Mutex, MutexGuard};
-use std::time::Duration;
+use std::sync::{Arc, Mutex, MutexGuard, OnceLock};
+use std::time::{Duration, Instant};
 
-use rustls::client::NoClientSessionStorage;
-use rustls::server::{AllowAnyAuthenticatedClient, NoServerSessionStorage};
-use rustls::{Certificate, ClientConfig, PrivateKey, RootCertStore, ServerConfig, ServerName};
+use rustls::ServerName;
+use socket2::{SockRef, TcpKeepalive};
 use tokio::io::{AsyncRead, AsyncReadExt, AsyncWrite, AsyncWriteExt};
 use tokio::net::TcpStream;
 use tokio::sync::Notify;
-use tokio_rustls::{TlsAcceptor, TlsConnector};
+use tokio::time::timeout;
+use tokio_rustls::TlsAcceptor;
 
-use crate::config::{Id, Tls};
+use crate::config::{Id, Key};
+use crate::doors::Seldom;
+use crate::pins::{Own, Pin};
 use crate::End;
 
 /// The kinds of messages: who is there; a frame of a run; a log with the number of its run; the number of a run whose log is
-/// durable at the watcher.
+/// durable at the watcher; the number of a run whose log the watcher refuses, and one word that says why.
 pub const HELLO: u8 = b'H';
 pub const FRAME: u8 = b'F';
 pub const LOG: u8 = b'L';
 pub const ACKNOWLEDGED: u8 = b'A';
+pub const REFUSED: u8 = b'R';
 
 /// How long a connection may take to be made, and to say who is there.
 pub const MOST_GREETING: Duration = Duration::from_secs(5);
+/// How long a message may take from its first byte to its last, read or written.
+pub const MOST_MESSAGE: Duration = Duration::from_secs(30);
+/// How long what was sent to a watcher may stay without an answer of its machine. A watcher that is busy reads later.
+pub const UNANSWERED_BY_WATCHER: Duration = Duration::from_secs(10);
+/// Within these it is a round, for a node.
+const LEAST_UNANSWERED: Duration = Duration::from_millis(200);
+const MOST_UNANSWERED: Duration = Duration::from_secs(2);
+/// After so long without a byte the other end's machine is asked whether it is there.
+const SILENT: Duration = Duration::from_secs(5);
 
 /// The body of the message that each connection begins with.
 #[derive(Debug, Clone, Copy, PartialEq, Eq)]
@@ -63,6 +74,11 @@ pub struct Message {
     pub body: Vec<u8>,
 }
 
+/// Does what has to be done within a time.
+pub async fn within<T>(most: Duration, what: &str, work: impl Future<Output = io::Result<T>>) -> io::Result<T> {
+    timeout(most, work).await.unwrap_or_else(|_| Err(io::Error::new(ErrorKind::TimedOut, what)))
+}
+
 /// Reads the next message, whose body has at most so many bytes. `None` if the connection ended before it.
 pub async fn read<S: AsyncRead + Unpin + ?Sized>(from: &mut S, most: usize) -> io::Result<Option<Message>> {
     let mut front = [0; 5];
@@ -70,14 +86,17 @@ pub async fn read<S: AsyncRead + Unpin + ?Sized>(from: &mut S, most: usize) -> i
         Err(told) if told.kind() == ErrorKind::UnexpectedEof => return Ok(None),
         told => told.map(|_| ())?,
     }
-    from.read_exact(&mut front[1..]).await?;
-    let length = u32::from_be_bytes([front[0], front[1], front[2], front[3]]) as usize;
-    if length == 0 || length - 1 > most {
-        return Err(io::Error::new(ErrorKind::InvalidData, format!("a message of {length} bytes")));
-    }
-    let mut body = vec![0; length - 1];
-    from.read_exact(&mut body).await?;
-    Ok(Some(Message { kind: front[4], body }))
+    let rest = async {
+        from.read_exact(&mut front[1..]).await?;
+        let length = u32::from_be_bytes([front[0], front[1], front[2], front[3]]) as usize;
+        if length == 0 || length - 1 > most {
+            return Err(io::Error::new(ErrorKind::InvalidData, format!("a message of {length} bytes")));
+        }
+        let mut body = vec![0; length - 1];
+        from.read_exact(&mut body).await?;
+        Ok(Some(Message { kind: front[4], body }))
+    };
+    within(MOST_MESSAGE, "a message does not end", rest).await
 }
 
 /// Writes a message whose body is these parts one behind another.
@@ -86,11 +105,14 @@ pub async fn write<S: AsyncWrite + Unpin + ?Sized>(to: &mut S, kind: u8, parts: 
     let length = u32::try_from(length).map_err(|_| io::Error::from(ErrorKind::InvalidInput))?;
     let mut front = [kind; 5];
     front[..4].copy_from_slice(&length.to_be_bytes());
-    to.write_all(&front).await?;
-    for part in parts {
-        to.write_all(part).await?;
-    }
-    to.flush().await
+    let whole = async {
+        to.write_all(&front).await?;
+        for part in parts {
+            to.write_all(part).await?;
+        }
+        to.flush().await
+    };
+    within(MOST_MESSAGE, "the other end does not read", whole).await
 }
 
 /// Reads the hello of a connection, of the system with this id.
@@ -110,135 +132,129 @@ pub trait Connected: AsyncRead + AsyncWrite + Unpin + Send {}
 impl<T: AsyncRead + AsyncWrite + Unpin + Send> Connected for T {}
 pub type Stream = Box<dyn Connected>;
 
-/// A connection that was taken, and the certificate that its other end has shown.
-pub struct Accepted {
-    pub stream: Stream,
-    pub from: SocketAddr,
-    certificate: Option<Certificate>,
+/// How long what was sent may stay without an answer of the other end's machine, by the length of a round, before the
+/// connection is closed.
+pub fn most_unanswered(round_ms: u32) -> Duration {
+    Duration::from_millis(round_ms.into()).clamp(LEAST_UNANSWERED, MOST_UNANSWERED)
 }
 
-impl Accepted {
-    /// Whether the other end may have this name: by its certificate, or where connections are plain by the address that it
-    /// comes from, if one is expected.
-    pub fn may_be(&self, name: &str, address: Option<SocketAddr>) -> bool {
-        match &self.certificate {
-            Some(certificate) => is_named(certificate, name),
-            None => address.map_or(true, |address| address.ip() == self.from.ip()),
-        }
-    }
-}
-
-/// Whether a certificate that was verified is of this name.
-fn is_named(certificate: &Certificate, name: &str) -> bool {
-    let Ok(name) = webpki::DnsNameRef::try_from_ascii_str(name) else { return false };
-    let shown = webpki::EndEntityCert::try_from(&certificate.0[..]);
-    shown.map_or(false, |it| it.verify_is_valid_for_dns_name(name).is_ok())
+/// Sets up a connection: what is sent goes at once, and an end that has vanished is noticed.
+pub fn set_up(stream: &TcpStream, most_unanswered: Duration) -> io::Result<()> {
+    let socket = SockRef::from(stream);
+    socket.set_nodelay(true)?;
+    socket.set_tcp_user_timeout(Some(most_unanswered))?;
+    socket.set_tcp_keepalive(&TcpKeepalive::new().with_time(SILENT).with_interval(SILENT / 5).with_retries(3))
 }
 
 /// Makes and takes connections: plain ones, or by mutual TLS.
 #[derive(Clone)]
 pub struct Transport {
-    tls: Option<(TlsConnector, TlsAcceptor)>,
-}
-
-/// What a file in PEM has, by a function of `rustls_pemfile`.
-fn pem(path: &Path, read: fn(&mut dyn io::BufRead) -> io::Result<Vec<Vec<u8>>>) -> Result<Vec<Vec<u8>>, End> {
-    let file = File::open(path).map_err(End::file(path))?;
-    let found = read(&mut BufReader::new(file)).map_err(End::file(path))?;
-    match found.is_empty() {
-        true => Err(End::fault(path, "nothing of what it has to have, in PEM")),
-        false => Ok(found),
-    }
-}
-
-/// The private keys of a file, in PKCS 8, RSA's or SEC 1's form.
-fn private_keys(from: &mut dyn io::BufRead) -> io::Result<Vec<Vec<u8>>> {
-    let items = rustls_pemfile::read_all(from)?;
-    Ok(items
-        .into_iter()
-        .filter_map(|item| match item {
-            rustls_pemfile::Item::PKCS8Key(key)
-            | rustls_pemfile::Item::RSAKey(key)
-            | rustls_pemfile::Item::ECKey(key) => Some(key),
-            _ => None,
-        })
-        .collect())
+    own: Option<Arc<Own>>,
 }
 
 impl Transport {
-    pub fn new(tls: Option<&Tls>) -> Result<Transport, End> {
-        let Some(tls) = tls else { return Ok(Transport { tls: None }) };
-        let mut authority = RootCertStore::empty();
-        for certificate in pem(&tls.authority, rustls_pemfile::certs)? {
-            authority.add(&Certificate(certificate)).map_err(|told| End::fault(&tls.authority, told))?;
-        }
-        let own: Vec<Certificate> =
-            pem(&tls.certificate, rustls_pemfile::certs)?.into_iter().map(Certificate).collect();
-        let key = PrivateKey(pem(&tls.key, private_keys)?.swap_remove(0));
-        let wrong = |told: rustls::Error| End::fault(&tls.key, told);
-        let to = ClientConfig::builder().with_safe_defaults().with_root_certificates(authority.clone());
-        let mut to = to.with_single_cert(own.clone(), key.clone()).map_err(wrong)?;
-        let verifier = AllowAnyAuthenticatedClient::new(authority);
-        let from = ServerConfig::builder().with_safe_defaults().with_client_cert_verifier(verifier);
-        let mut from = from.with_single_cert(own, key).map_err(wrong)?;
-        // No session is resumed: that would show no certificate, and what is kept for it grows with the connections.
-        to.session_storage = Arc::new(NoClientSessionStorage {});
-        from.session_storage = Arc::new(NoServerSessionStorage {});
-        Ok(Transport { tls: Some((Arc::new(to).into(), Arc::new(from).into())) })
+    pub fn new(key: Option<&Key>) -> Result<Transport, End> {
+        Ok(Transport { own: key.map(|key| Own::read(&key.file)).transpose()?.map(Arc::new) })
     }
 
-    /// Connects to an address, at which by its certificate this name has to be.
-    pub async fn connect(&self, address: SocketAddr, name: &str) -> io::Result<Stream> {
+    #[cfg(test)]
+    pub fn of(own: Arc<Own>) -> Transport {
+        Transport { own: Some(own) }
+    }
+
+    /// By what others know this end, if connections are not plain.
+    pub fn pin(&self) -> Option<Pin> {
+        self.own.as_ref().map(|own| own.pin())
+    }
+
+    /// Connects to an address, where the key of one of these pins has to be.
+    pub async fn connect(&self, address: SocketAddr, pins: &[Pin], most_unanswered: Duration) -> io::Result<Stream> {
         let connecting = async {
             let stream = TcpStream::connect(address).await?;
-            stream.set_nodelay(true)?;
-            let Some((connector, _)) = &self.tls else { return Ok(Box::new(stream) as Stream) };
-            let name = ServerName::try_from(name).map_err(|told| io::Error::new(ErrorKind::InvalidInput, told))?;
-            Ok(Box::new(connector.connect(name, stream).await?) as Stream)
+            set_up(&stream, most_unanswered)?;
+            match &self.own {
+                Some(own) => {
+                    let connector =
+                        own.connector(pins).map_err(|told| io::Error::new(ErrorKind::InvalidInput, told))?;
+                    let name = ServerName::IpAddress(address.ip());
+                    Ok(Box::new(connector.connect(name, stream).await?) as Stream)
+                }
+                None => Ok(Box::new(stream) as Stream),
+            }
         };
-        tokio::time::timeout(MOST_GREETING, connecting).await.map_err(|_| io::Error::from(ErrorKind::TimedOut))?
+        within(MOST_GREETING, "it takes too long to connect", connecting).await
     }
 
-    /// Makes a connection of one that a listener took.
-    pub async fn accept(&self, stream: TcpStream, from: SocketAddr) -> io::Result<Accepted> {
-        stream.set_nodelay(true)?;
-        let Some((_, acceptor)) = &self.tls else {
-            return Ok(Accepted { stream: Box::new(stream), from, certificate: None });
-        };
-        let accepting = tokio::time::timeout(MOST_GREETING, acceptor.accept(stream)).await;
-        let stream = accepting.map_err(|_| io::Error::from(ErrorKind::TimedOut))??;
-        let certificate = stream.get_ref().1.peer_certificates().and_then(|all| all.first().cloned());
-        match certificate {
-            Some(it) => Ok(Accepted { stream: Box::new(stream), from, certificate: Some(it) }),
-            None => Err(io::Error::new(ErrorKind::PermissionDenied, "no certificate")),
-        }
+    /// What takes connections of ends that have keys of these pins, if connections are not plain.
+    pub fn acceptor(&self, pins: Vec<Pin>) -> Result<Option<TlsAcceptor>, End> {
+        self.own.as_ref().map(|own| own.acceptor(pins)).transpose().map_err(End::failed)
     }
 }
 
-/// How long to wait before the next try to connect: twice as long each time, up to two seconds.
-pub struct Backoff(Duration);
+/// How long to wait before the next try to connect: twice as long each time, up to two seconds. That the other end is away is
+/// said once it has been for ten seconds, and then each minute.
+pub struct Backoff {
+    wait: Duration,
+    since: Instant,
+    away: Seldom,
+}
 
 impl Backoff {
     const FIRST: Duration = Duration::from_millis(50);
     const MOST: Duration = Duration::from_secs(2);
+    const AWAY: Duration = Duration::from_secs(10);
+    const AWAY_EACH: Duration = Duration::from_secs(60);
 
     pub fn new() -> Backoff {
-        Backoff(Backoff::FIRST)
+        Backoff { wait: Backoff::FIRST, since: Instant::now(), away: Seldom::new(Backoff::AWAY_EACH) }
     }
 
-    pub fn is_connected(&mut self) {
-        self.0 = Backoff::FIRST;
+    /// Notes that a connection, which has ended now, stood for so long. One that ended at once was none.
+    pub fn stood(&mut self, long: Duration) {
+        if long >= Backoff::MOST {
+            self.wait = Backoff::FIRST;
+            self.since = Instant::now();
+        }
+    }
+
+    /// Whether it is to be said that the other end is away, and how often it was not since it was said last.
+    pub fn may_say(&self) -> Option<u64> {
+        if self.since.elapsed() < Backoff::AWAY {
+            return None;
+        }
+        self.away.may_say()
     }
 
     pub async fn wait(&mut self) {
-        tokio::time::sleep(self.0).await;
-        self.0 = (self.0 * 2).min(Backoff::MOST);
+        tokio::time::sleep(self.wait).await;
+        self.wait = (self.wait * 2).min(Backoff::MOST);
+    }
+}
+
+/// A frame that goes to a neighbour, and when all of it was handed to the kernel.
+pub struct Outgoing {
+    pub bytes: Arc<[u8]>,
+    handed_over: OnceLock<Instant>,
+}
+
+impl Outgoing {
+    pub fn new(bytes: Arc<[u8]>) -> Arc<Outgoing> {
+        Arc::new(Outgoing { bytes, handed_over: OnceLock::new() })
+    }
+
+    /// Notes that the kernel has all of it.
+    pub fn is_handed_over(&self) {
+        self.handed_over.get_or_init(Instant::now);
+    }
+
+    pub fn handed_over(&self) -> Option<Instant> {
+        self.handed_over.get().copied()
     }
 }
 
 /// What goes to one neighbour: at most so many bytes wait, and the oldest is dropped where there are more.
 pub struct Queue {
-    waiting: Mutex<(VecDeque<Arc<[u8]>>, usize)>,
+    waiting: Mutex<(VecDeque<Arc<Outgoing>>, usize)>,
     come: Notify,
     most_bytes: usize,
 }
@@ -248,19 +264,19 @@ impl Queue {
         Queue { waiting: Mutex::default(), come: Notify::new(), most_bytes }
     }
 
-    fn waiting(&self) -> MutexGuard<'_, (VecDeque<Arc<[u8]>>, usize)> {
+    fn waiting(&self) -> MutexGuard<'_, (VecDeque<Arc<Outgoing>>, usize)> {
         self.waiting.lock().unwrap_or_else(|told| told.into_inner())
     }
 
-    /// Puts bytes behind what waits. Tells how many were dropped.
-    pub fn push(&self, bytes: Arc<[u8]>) -> usize {
+    /// Puts a frame behind what waits. Tells how many were dropped.
+    pub fn push(&self, frame: Arc<Outgoing>) -> usize {
         let mut waiting = self.waiting();
         let (queue, held) = &mut *waiting;
-        *held += bytes.len();
-        queue.push_back(bytes);
+        *held += frame.bytes.len();
+        queue.push_back(frame);
         let mut dropped = 0;
         while *held > self.most_bytes && queue.len() > 1 {
-            *held -= queue.pop_front().map_or(0, |oldest| oldest.len());
+            *held -= queue.pop_front().map_or(0, |oldest| oldest.bytes.len());
             dropped += 1;
         }
         drop(waiting);
@@ -269,20 +285,20 @@ impl Queue {
     }
 
     /// Takes what has waited longest, as soon as something is there.
-    pub async fn pop(&self) -> Arc<[u8]> {
+    pub async fn pop(&self) -> Arc<Outgoing> {
         loop {
-            if let Some(bytes) = self.take() {
-                return bytes;
+            if let Some(frame) = self.take() {
+                return frame;
             }
             self.come.notified().await;
         }
     }
 
-    fn take(&self) -> Option<Arc<[u8]>> {
+    fn take(&self) -> Option<Arc<Outgoing>> {
         let mut waiting = self.waiting();
-        let bytes = waiting.0.pop_front()?;
-        waiting.1 -= bytes.len();
-        Some(bytes)
+        let frame = waiting.0.pop_front()?;
+        waiting.1 -= frame.bytes.len();
+        Some(frame)
     }
 
     /// Drops all that waits.
@@ -296,7 +312,7 @@ mod tests {
     use super::*;
 
     fn now<F: std::future::Future>(of: F) -> F::Output {
-        tokio::runtime::Builder::new_current_thread().build().expect("a runtime").block_on(of)
+        tokio::runtime::Builder::new_current_thread().enable_time().build().expect("a runtime").block_on(of)
     }
 
     #[test]
@@ -332,14 +348,24 @@ mod tests {
     }
 
     #[test]
+    fn a_connection_that_ends_at_once_is_none() {
+        let mut backoff = Backoff::new();
+        backoff.wait = Backoff::MOST;
+        backoff.stood(Duration::from_millis(10));
+        assert_eq!(backoff.wait, Backoff::MOST);
+        backoff.stood(Backoff::MOST);
+        assert_eq!((backoff.wait, backoff.may_say()), (Backoff::FIRST, None));
+    }
+
+    #[test]
     fn a_queue_drops_the_oldest() {
         let queue = Queue::new(10);
-        let of = |byte: u8| -> Arc<[u8]> { vec![byte; 4].into() };
+        let of = |byte: u8| Outgoing::new(vec![byte; 4].into());
         assert_eq!([1, 2, 3, 4].map(|byte| queue.push(of(byte))), [0, 0, 1, 1]);
-        assert_eq!((now(queue.pop()), now(queue.pop())), (of(3), of(4)));
-        assert_eq!(queue.push(vec![0; 99].into()), 0);
+        assert_eq!([now(queue.pop()).bytes[0], now(queue.pop()).bytes[0]], [3, 4]);
+        assert_eq!(queue.push(Outgoing::new(vec![0; 99].into())), 0);
         assert_eq!(queue.push(of(5)), 1);
         queue.clear();
-        assert_eq!(queue.take(), None);
+        assert!(queue.take().is_none());
     }
 }

@@ -141,6 +141,13 @@ class Kept(unittest.TestCase):
                 self.assertRaises(StateFault, self.kept.take, 0)
             path.unlink()
             self.assertRaises(FileNotFoundError, self.kept.take, 0)
+            elsewhere = self.folder / "elsewhere"
+            elsewhere.write_bytes(whole)
+            elsewhere.chmod(0o600)
+            for link in (os.symlink, os.link):
+                link(elsewhere, path)
+                self.assertRaises(StateFault, self.kept.take, 0)
+                path.unlink()
             path.write_bytes(whole)
             path.chmod(0o600)
         self.state.chmod(0o640)

@@ -172,8 +172,8 @@ class Nobody(Misuse):
 
 
 class StateFault(RuntimeError):
-    """A kept state gives no seed: a file is no whole record, is of another system, or others may use it. No seed was handed
-    out.
+    """A kept state gives no seed: a file is no whole record, is a link or has a second name, is of another system, or others
+    may use it. No seed was handed out.
     """
 
 

@@ -6,6 +6,7 @@ import contextlib
 import fcntl
 import os
 import pathlib
+import stat
 from typing import Iterator, List, Tuple, Union
 
 from ._faults import OlderState, StateFault, UsedSet
@@ -23,11 +24,12 @@ class KeptState:
 
     The files have the forms of docs/IDENTITIES.md, and the packages for C and Rust keep the same. A call reads them anew
     under a lock, so threads and processes may call at the same time, also after a fork. The lock is flock() on the folder
-    of the state, which has to be on a file system that has it. Nothing is read or written before the first call.
+    of the state, which has to be on a file system that has it. A call waits as long as a node of the program vamuretu has
+    this folder. Nothing is read or written before the first call.
 
     OSError is raised if a file or a folder can't be read, written or waited for; then the state may have gone on to the next
-    set. StateFault is raised if a file is no whole record, or of another system, or if others may use the state, whose mode
-    has to be 600. Its kind OlderState says that the state is older than its mark. No seed was handed out then.
+    set. StateFault is raised if a file is no whole record, or of another system, or a link, or has a second name, or if
+    others may use the state, whose mode has to be 600. Its kind OlderState says that the state is older than its mark. No seed was handed out then.
     """
 
     def __init__(self, state: Path, mark: Path, system: SystemId) -> None:
@@ -137,12 +139,16 @@ class KeptState:
 
 
 def _read_exactly(path: pathlib.Path, length: int, refused: int) -> bytes:
-    """All of a file that has so many bytes, and that others don't have the rights of this mode on."""
+    """All of a plain file with one name that has so many bytes, and that others don't have the rights of this mode on."""
+    told = os.lstat(path)
+    # The next state would be put into the place of a link.
+    if not stat.S_ISREG(told.st_mode) or told.st_nlink != 1:
+        raise StateFault(f"{path} is no plain file with one name")
     with open(path, "rb") as file:
-        data, mode = file.read(length + 1), os.fstat(file.fileno()).st_mode
+        data = file.read(length + 1)
     if len(data) != length:
         raise StateFault(f"{path} has not {length} bytes")
-    if mode & refused:
+    if told.st_mode & refused:
         raise StateFault(f"others may use {path}: its mode has to be 600")
     return data
 

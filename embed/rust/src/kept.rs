@@ -29,7 +29,7 @@ extern "C" {
 pub enum StateFault {
     /// A file or a folder could not be read, written or waited for. The state may have gone on to the next set.
     File(PathBuf, io::Error),
-    /// The file is no whole record, or others may use it: the mode of a state has to be 600.
+    /// The file is no whole record, or no plain file with one name, or others may use it: the mode of a state has to be 600.
     NoRecord(PathBuf),
     /// The file is of another system than the one that is expected.
     OtherSystem(PathBuf),
@@ -56,7 +56,9 @@ impl fmt::Display for StateFault {
     fn fmt(&self, to: &mut fmt::Formatter<'_>) -> fmt::Result {
         match self {
             StateFault::File(path, told) => write!(to, "{}: {told}", path.display()),
-            StateFault::NoRecord(path) => write!(to, "{}: no whole record, or others may use it", path.display()),
+            StateFault::NoRecord(path) => {
+                write!(to, "{}: no whole record in a plain file with one name, or others may use it", path.display())
+            },
             StateFault::OtherSystem(path) => write!(to, "{}: of another system", path.display()),
             StateFault::Older { state, mark } => write!(to, "the state is of set {state}, and its mark of set {mark}"),
             StateFault::Used { set, next } => write!(to, "the seed of set {set} is used: the next set is {next}"),
@@ -85,7 +87,8 @@ impl From<Fault> for StateFault {
 ///
 /// The files have the forms of `docs/IDENTITIES.md`, and the packages for C and Python keep the same. A call reads them
 /// anew under a lock, so threads and processes may call at the same time. The lock is `flock` on the folder of the state,
-/// which has to be on a file system that has it.
+/// which has to be on a file system that has it. A call waits as long as a node of the program `vamuretu` has this folder.
+/// A file that is a link, or has a second name, is refused: the next state would be put into the place of the link.
 #[derive(Debug, Clone, PartialEq, Eq)]
 pub struct KeptState {
     state: PathBuf,
@@ -242,16 +245,16 @@ fn folder_of(path: &Path) -> PathBuf {
     }
 }
 
-/// All of a file that has so many bytes, and that others don't have the rights of this mode on.
+/// All of a plain file with one name that has so many bytes, and that others don't have the rights of this mode on.
 fn read_exactly<const BYTES: usize>(path: &Path, refused: u32) -> Result<[u8; BYTES], StateFault> {
+    let told = fs::symlink_metadata(path).map_err(of(path))?;
+    if !told.is_file() || told.nlink() != 1 || told.mode() & refused != 0 {
+        return Err(StateFault::NoRecord(path.to_owned()));
+    }
     let file = File::open(path).map_err(of(path))?;
-    let mode = file.metadata().map_err(of(path))?.mode();
     let mut bytes = Vec::with_capacity(BYTES + 1);
     file.take(BYTES as u64 + 1).read_to_end(&mut bytes).map_err(of(path))?;
-    match bytes.try_into() {
-        Ok(bytes) if mode & refused == 0 => Ok(bytes),
-        _ => Err(StateFault::NoRecord(path.to_owned())),
-    }
+    bytes.try_into().map_err(|_| StateFault::NoRecord(path.to_owned()))
 }
 
 /// Writes a file beside a path, waits until its bytes are on the disk, and tells its name.

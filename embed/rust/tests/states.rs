@@ -2,7 +2,7 @@
 
 use std::collections::BTreeSet;
 use std::fs;
-use std::os::unix::fs::PermissionsExt;
+use std::os::unix::fs::{symlink, PermissionsExt};
 use std::path::{Path, PathBuf};
 use std::thread;
 use vamuretu::{Fault, KeptState, Secret, SetState, StateFault, SystemId};
@@ -178,6 +178,14 @@ fn files_that_are_refused() {
         );
         fs::remove_file(&path).expect("a file that is lost");
         assert!(matches!(kept.take(0), Err(StateFault::File(told, _)) if told == path));
+        let elsewhere = folder.0.join("elsewhere");
+        fs::write(&elsewhere, bytes).expect("a file");
+        fs::set_permissions(&elsewhere, fs::Permissions::from_mode(0o600)).expect("a mode");
+        for link in [symlink::<&Path, &Path>, |of: &Path, name: &Path| fs::hard_link(of, name)] {
+            link(&elsewhere, &path).expect("a link");
+            assert!(matches!(kept.take(0), Err(StateFault::NoRecord(told)) if told == path));
+            fs::remove_file(&path).expect("taken away");
+        }
         fs::write(&path, bytes).expect("a file");
         fs::set_permissions(&path, fs::Permissions::from_mode(0o600)).expect("a mode");
     }

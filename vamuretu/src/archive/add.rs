@@ -17,6 +17,7 @@ use super::judged::{self, Admissions};
 use super::room::Rooms;
 use super::store::{Admission, Before, Judge, Outcome, Store};
 use crate::config::Id;
+use crate::text::spelled;
 use crate::watch::judge::digest;
 use crate::End;
 
@@ -82,6 +83,7 @@ pub fn add(words: &Add) -> Result<Done, End> {
     let mut store = Store::open(&words.index, words.system.as_ref())?;
     let is_new = admit(&mut store, &words.admissions)?;
     let admissions = store.admissions()?;
+    refuse_numberless(&listed, &admissions)?;
     let before = store.before(&judge, is_new)?;
     let is_gone = |path: &&PathBuf| {
         !listed.files.contains(*path) && listed.folders.iter().any(|folder| path.starts_with(folder)) && !path.is_file()
@@ -95,6 +97,20 @@ pub fn add(words: &Add) -> Result<Done, End> {
     let judged = judged + work.all(&mut store, tasks)?;
     store.close()?;
     Ok(Done { files, judged })
+}
+
+/// Refuses the folder of a watcher where nothing tells the numbers of its runs: an index of it would blame nobody by a number.
+fn refuse_numberless(listed: &Listed, admissions: &Admissions) -> Result<(), End> {
+    match listed.files.iter().find(|path| files::is_of_watcher(path)) {
+        Some(path) if admissions.of_runs.is_empty() && admissions.others.is_empty() => {
+            let path = spelled(path);
+            Err(End::failed(format!(
+                "{path} is a watcher's, whose runs have numbers: give --system ID --admissions FOLDER. Where the index of the \
+                 watcher is lost, vamuretu watch makes it again"
+            )))
+        }
+        _ => Ok(()),
+    }
 }
 
 /// The files that the words name.

@@ -1,10 +1,12 @@
 //! All rows of an index, as CSV with a row of names, as lines of JSON, or as `sha256sum` takes them.
 
 use std::io::{self, Write};
+use std::os::unix::ffi::OsStrExt;
 
 use serde_json::{json, Map, Value};
 
-use super::read::{put_path, Kept, Reader};
+use super::read::{put_path, Digest, Kept, Reader};
+use crate::text::{self, spelled};
 use crate::End;
 
 /// How rows are written.
@@ -54,19 +56,27 @@ fn object_of(row: &Kept) -> Map<String, Value> {
     object
 }
 
-/// A value as a field of CSV: nothing for null, a text as it is, and else as JSON has it.
+/// The fields of a row of CSV. A path that is spelled otherwise than it is stands in `path_hex` too.
+fn fields(row: &Kept) -> [String; COLUMNS.len()] {
+    let mut object = object_of(row);
+    if let Some(path) = row.path.as_ref().filter(|path| path.to_str() != Some(&spelled(*path))) {
+        object.insert("path_hex".into(), hex::encode(path.as_os_str().as_bytes()).into());
+    }
+    COLUMNS.map(|name| field(object.get(name)))
+}
+
+/// A value as a field of CSV: nothing for null, a text as lines have it, and else as JSON has it.
 fn field(value: Option<&Value>) -> String {
     match value {
         None | Some(Value::Null) => String::new(),
-        Some(Value::String(text)) => text.clone(),
+        Some(Value::String(text)) => spelled(text),
         Some(value) => value.to_string(),
     }
 }
 
-/// The line of `sha256sum` of a file that is there.
-pub fn digest_line(row: &Kept) -> Option<Vec<u8>> {
-    let (digest, path) = (row.sha256.as_ref()?, row.path.as_ref().filter(|_| !row.gone && row.place == 0)?);
-    let name = std::os::unix::ffi::OsStrExt::as_bytes(path.as_os_str());
+/// The line of `sha256sum` of a file.
+pub fn digest_line(file: &Digest) -> Vec<u8> {
+    let name = file.path.as_os_str().as_bytes();
     let is_plain = !name.iter().any(|byte| b"\\\n\r".contains(byte));
     let escaped = name.iter().flat_map(|byte| match byte {
         b'\\' => b"\\\\".to_vec(),
@@ -75,7 +85,7 @@ pub fn digest_line(row: &Kept) -> Option<Vec<u8>> {
         byte => vec![*byte],
     });
     let mark = if is_plain { "" } else { "\\" };
-    Some([format!("{mark}{digest}  ").into_bytes(), escaped.collect(), b"\n".to_vec()].concat())
+    [format!("{mark}{}  ", file.sha256).into_bytes(), escaped.collect(), b"\n".to_vec()].concat()
 }
 
 /// Standard output, which a reader may close when it has read enough.
@@ -113,19 +123,16 @@ pub fn write(reader: &Reader, form: Form, to: impl Write) -> Result<(), End> {
         let mut csv = csv::Writer::from_writer(&mut to);
         let failed = |told: csv::Error| unusable(io::Error::other(told));
         csv.write_record(COLUMNS).map_err(failed)?;
-        reader.each_kept(|row| {
-            let object = object_of(&row);
-            csv.write_record(COLUMNS.map(|name| field(object.get(name)))).map_err(failed)
-        })?;
+        reader.each_kept(|row| csv.write_record(fields(&row)).map_err(failed))?;
         csv.flush().map_err(unusable)?;
-    } else {
+    } else if form == Form::Json {
         reader.each_kept(|row| {
-            let line = match form {
-                Form::Digests => digest_line(&row).unwrap_or_default(),
-                _ => format!("{}\n", Value::Object(object_of(&row))).into_bytes(),
-            };
-            to.write_all(&line).map_err(unusable)
+            let line = text::json(&Value::Object(object_of(&row))) + "\n";
+            to.write_all(line.as_bytes()).map_err(unusable)
         })?;
+    } else {
+        let files = reader.digests()?;
+        files.iter().try_for_each(|file| to.write_all(&digest_line(file))).map_err(unusable)?;
     }
     to.flush().map_err(unusable)
 }

@@ -18,6 +18,7 @@ use zstd::zstd_safe::{find_frame_compressed_size, get_frame_content_size};
 
 use super::room::{Rooms, Taken};
 use crate::watch::judge::{digest, WINDOW};
+use crate::watch::keep;
 
 /// The most bytes that an input of the library has, as `sm_tool` takes them.
 pub const MOST_INPUT: u64 = 1 << 30;
@@ -175,6 +176,16 @@ fn is_bundle(name: &OsStr) -> bool {
     ENDS.iter().any(|end| name.ends_with(end.as_bytes()))
 }
 
+/// Whether a watcher has stored a bundle: the verdict on it stands beside it, by the same number and digest.
+pub fn is_of_watcher(path: &Path) -> bool {
+    let stem = path.file_name().and_then(OsStr::to_str).and_then(|name| name.strip_suffix(keep::BUNDLE));
+    let is_stem = |stem: &&str| {
+        let parts = stem.split_once('-');
+        parts.is_some_and(|(number, digest)| number.parse::<u32>().is_ok() && u32::from_str_radix(digest, 16).is_ok())
+    };
+    stem.filter(is_stem).is_some_and(|stem| path.with_file_name(format!("{stem}{}", keep::VERDICT)).is_file())
+}
+
 impl Listed {
     /// Takes a file by its name, and of a folder all bundles and campaigns below it, but no symbolic link.
     pub fn take(&mut self, path: &Path) {
@@ -258,6 +269,24 @@ mod tests {
         listed.take(&folder.join("none"));
         let wanted = ["a.bundle", "below/b.bundles.zst", "below/c.txt", "none"].map(|name| folder.join(name));
         assert_eq!((listed.files, listed.folders, listed.unread.len()), (wanted.into(), vec![folder.clone()], 0));
+        std::fs::remove_dir_all(folder).expect("a folder");
+    }
+
+    #[test]
+    fn what_a_watcher_has_stored() {
+        let folder = folder("of_watcher");
+        for name in [
+            "7-1a2b3c4d.bundle.zst",
+            "7-1a2b3c4d.verdict.json",
+            "8-1a2b3c4d.bundle.zst",
+            "x.bundle.zst",
+            "x.verdict.json",
+        ] {
+            std::fs::write(folder.join(name), "x").expect("a file");
+        }
+        let told = |name: &str| is_of_watcher(&folder.join(name));
+        assert!(told("7-1a2b3c4d.bundle.zst"));
+        assert!(!told("8-1a2b3c4d.bundle.zst") && !told("x.bundle.zst") && !told("7-1a2b3c4d.verdict.json"));
         std::fs::remove_dir_all(folder).expect("a folder");
     }
 

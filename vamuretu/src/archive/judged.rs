@@ -40,12 +40,13 @@ pub struct Run {
 }
 
 /// Who is convicted, and by what; `other` is the place of the second run of a conviction across two runs, and otherwise
-/// that of the run itself.
+/// that of the run itself. The root is that of the node's keys in the run.
 #[derive(Debug, Clone, PartialEq, Eq)]
 pub struct Accused {
     pub node: u32,
     pub kind: String,
     pub other: u32,
+    pub root: String,
 }
 
 /// The admissions of one system, by the runs that they admit.
@@ -117,6 +118,14 @@ struct General {
     general: u32,
 }
 
+/// A line of `show`, of which headers are of interest.
+#[derive(Deserialize)]
+struct Shown {
+    format: String,
+    #[serde(default)]
+    roots: Vec<String>,
+}
+
 #[derive(Deserialize)]
 struct Status {
     general: u32,
@@ -137,10 +146,10 @@ impl Of {
             nodes
         };
         let pair = |(one, other): (u32, u32)| (node(one).min(node(other)), node(one).max(node(other)));
-        let in_run =
-            self.convictions.into_iter().map(|it| Accused { node: node(it.general), kind: it.id, other: place });
+        let of = |general, kind, other| Accused { node: node(general), kind, other, root: String::new() };
+        let in_run = self.convictions.into_iter().map(|it| of(it.general, it.id, place));
         let across = across.iter().filter(|it| it.first == place);
-        let across = across.map(|it| Accused { node: node(it.general), kind: it.id.clone(), other: it.second });
+        let across = across.map(|it| of(it.general, it.id.clone(), it.second));
         let mut accused: Vec<Accused> = in_run.chain(across).collect();
         accused.sort_by_key(|it| (it.node, it.other));
         let is_shown = |general: &u32| self.logs.iter().any(|log| log.general == *general);
@@ -161,6 +170,15 @@ impl Of {
 }
 
 impl Run {
+    /// Tells the root of each who is convicted, by the roots of the generals.
+    fn name_roots(&mut self, roots: &[String]) -> Option<()> {
+        for place in 0..self.accused.len() {
+            let general = self.general_of(self.accused[place].node);
+            self.accused[place].root = roots.get(general as usize)?.clone();
+        }
+        Some(())
+    }
+
     /// The number in the run of a node that the run names.
     pub fn general_of(&self, node: u32) -> u32 {
         let nodes = self.admitted.iter().flat_map(|it| &it.1);
@@ -169,7 +187,18 @@ impl Run {
 }
 
 impl Answer {
-    /// The answer of a line of JSON that the library wrote.
+    /// The answer on an input, of a line of JSON that the library wrote.
+    pub fn on(input: &[u8], json: String) -> Result<Answer, Fault> {
+        let mut answer = Answer::of(json).map_err(|_| Fault::Misuse)?;
+        if answer.runs.iter().any(|run| !run.accused.is_empty()) {
+            let roots = roots_of(input)?;
+            let named = answer.runs.iter_mut().zip(&roots).map(|(run, roots)| run.name_roots(roots));
+            named.collect::<Option<()>>().ok_or(Fault::Misuse)?;
+        }
+        Ok(answer)
+    }
+
+    /// The answer of a line of JSON, without roots.
     pub fn of(json: String) -> serde_json::Result<Answer> {
         let told: Told = serde_json::from_str(&json)?;
         let runs = match told.runs {
@@ -185,27 +214,34 @@ impl Answer {
     pub fn said(&self) -> String {
         let of = |run: &Run| {
             let value = run.value.map_or_else(String::new, |value| format!(" {value}"));
-            let accused = run.accused.iter().map(|it| format!(", convicted {} by {}", it.node, it.kind));
+            let word = if run.admitted.is_some() { "node" } else { "general" };
+            let accused = run.accused.iter().map(|it| format!(", convicted {word} {} by {}", it.node, it.kind));
             format!("{}{value}{}", run.verdict, accused.collect::<String>())
         };
         self.runs.iter().map(of).collect::<Vec<_>>().join("; ")
     }
 }
 
+/// The roots of the generals, run by run.
+fn roots_of(input: &[u8]) -> Result<Vec<Vec<String>>, Fault> {
+    let shown = vamuretu::show_json(&[], input)?;
+    let lines = shown.text().lines().filter_map(|line| serde_json::from_str::<Shown>(line).ok());
+    Ok(lines.filter(|it| it.format == "shown header").map(|it| it.roots).collect())
+}
+
 /// The answer of the library on an input. It is asked by the admission of the input's run, if there is one.
 pub fn judge(input: &[u8], admissions: &Admissions) -> Result<Answer, Fault> {
-    let read = |json: String| Answer::of(json).map_err(|_| Fault::Misuse);
     let ids = vamuretu::run_ids(input)?.unwrap_or_default();
     let own = ids.first().and_then(|id| admissions.of_runs.get(id));
     let system = admissions.system.as_ref();
     for admission in own.into_iter().chain(&admissions.others) {
         match vamuretu::audit_json(Expected::Admitted { admission, system }, input) {
-            Ok(json) => return read(json),
+            Ok(json) => return Answer::on(input, json),
             Err(Fault::Memory) => return Err(Fault::Memory),
             Err(_) => {}
         }
     }
-    read(vamuretu::audit_json(&[], input)?)
+    Answer::on(input, vamuretu::audit_json(&[], input)?)
 }
 
 #[cfg(test)]
@@ -228,15 +264,17 @@ mod tests {
             (run.verdict.as_str(), run.value, &run.listed[..], &run.missing[..]),
             ("agreed", Some(0), &[0][..], &[][..])
         );
-        assert_eq!(run.accused, [Accused { node: 0, kind: "K2".into(), other: 0 }]);
-        assert_eq!((split.said(), run.admitted.as_ref()), ("agreed 0, convicted 0 by K2".into(), None));
+        let root = "18fbddbba9d556d0900c7ea3560789be9612d41a689f374ddb8ccc6d562d56f7".into();
+        assert_eq!(run.accused, [Accused { node: 0, kind: "K2".into(), other: 0, root }]);
+        assert_eq!((split.said(), run.admitted.as_ref()), ("agreed 0, convicted general 0 by K2".into(), None));
         assert_eq!((split.input, split.json.ends_with("}\n")), (crate::watch::judge::digest(SPLIT), true));
         let disputed = judged(DISPUTED);
         assert_eq!((disputed.said(), &disputed.runs[0].suspected[..]), ("no".into(), &[0, 2][..]));
         assert_eq!(disputed.runs[0].findings[0]["id"], "N8");
         let series = judged(SERIES);
-        let wanted = "agreed 1; agreed 0, convicted 0 by K2; agreed 1; agreed 0, convicted 0 by K2";
+        let wanted = "agreed 1; agreed 0, convicted general 0 by K2; agreed 1; agreed 0, convicted general 0 by K2";
         assert_eq!((series.said().as_str(), series.runs.len()), (wanted, 4));
+        assert_eq!(series.runs[1].accused[0].root, series.runs[3].accused[0].root);
     }
 
     #[test]
@@ -251,8 +289,13 @@ mod tests {
         assert_eq!(run.admitted, Some((5, vec![2, 0, 1])));
         assert_eq!((&run.listed[..], &run.missing[..], &run.suspected[..]), (&[0, 2][..], &[1, 2][..], &[1][..]));
         assert_eq!((&run.equal_roots[..], run.general_of(2), run.general_of(1)), (&[(0, 2)][..], 0, 2));
-        let accused = |node, kind: &str, other| Accused { node, kind: kind.into(), other };
-        assert_eq!(run.accused, [accused(0, "K1", 1), accused(2, "K2", 0)]);
+        let accused =
+            |node, kind: &str, other, root: &str| Accused { node, kind: kind.into(), other, root: root.into() };
+        assert_eq!(run.accused, [accused(0, "K1", 1, ""), accused(2, "K2", 0, "")]);
+        let mut named = run.clone();
+        assert_eq!(named.name_roots(&["a0".into()]), None);
+        assert_eq!(named.name_roots(&["a0".into(), "a1".into(), "a2".into()]), Some(()));
+        assert_eq!(named.accused, [accused(0, "K1", 1, "a1"), accused(2, "K2", 0, "a0")]);
         assert!(Answer::of("{}".into()).is_err());
     }
 

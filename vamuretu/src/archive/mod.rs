@@ -2,6 +2,7 @@
 //! The index is that of a watcher, with tables of its own ([`crate::watch::index`]).
 
 mod add;
+mod checked;
 mod export;
 pub mod files;
 pub mod judged;
@@ -14,7 +15,7 @@ use std::path::PathBuf;
 
 use serde_json::json;
 
-use crate::End;
+use crate::{text, End};
 use add::Add;
 pub use add::{admissions_of, id_of};
 use export::Output;
@@ -81,8 +82,10 @@ pub fn perform(asked: &Archive) -> Result<bool, End> {
         }
         Archive::Ask { index, question, range, json } => {
             let found = Reader::open(index)?.ask(*question, *range)?;
-            let line = |it: &read::Found| if *json { format!("{}\n", it.json()) } else { format!("{}\n", it.line()) };
-            write(&found.iter().map(line).collect::<String>())?;
+            let line = |it: &read::Found| if *json { text::json(&it.json()) } else { it.line() };
+            let warned = !*json && found.iter().any(read::Found::is_numberless);
+            let lines = warned.then(|| read::NUMBERLESS.to_owned()).into_iter().chain(found.iter().map(line));
+            write(&lines.map(|line| line + "\n").collect::<String>())?;
             Ok(!found.is_empty())
         }
         Archive::Export { index, json, digests, .. } => {

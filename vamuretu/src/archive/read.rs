@@ -6,11 +6,17 @@ use std::path::{Path, PathBuf};
 use rusqlite::{Connection, Row};
 use serde_json::{json, Map, Value};
 
+use super::checked;
 use super::store::{list, path_of};
-use crate::watch::index;
+use crate::text::spelled;
 use crate::End;
 
 type Asked<T> = rusqlite::Result<T>;
+
+/// What stands above convictions in runs that have no number.
+pub const NUMBERLESS: &str =
+    "No admission shows these runs: the number of a general says nothing of another run, and anybody \
+    can make such files. For numbers of runs and nodes: vamuretu archive add INDEX --system ID --admissions FOLDER";
 
 /// What an index can be asked.
 #[derive(Debug, Clone, Copy, PartialEq, Eq, clap::ValueEnum)]
@@ -33,29 +39,35 @@ pub enum Question {
     Faults,
 }
 
-/// The greatest number that a run of a system can have.
-const LAST: i64 = (1 << 22) - 1;
-
 /// The numbers of the runs that there have to be, as far as they are named.
 #[derive(Debug, Clone, Copy, Default, clap::Args)]
 pub struct Range {
     /// The first run that there has to be, otherwise the first that is known
-    #[arg(long, value_parser = clap::value_parser!(u32).range(..=LAST))]
+    #[arg(long, value_parser = clap::value_parser!(u32).range(..=checked::LAST))]
     pub first: Option<u32>,
     /// The last run that there has to be, otherwise the last that is known
-    #[arg(long, value_parser = clap::value_parser!(u32).range(..=LAST))]
+    #[arg(long, value_parser = clap::value_parser!(u32).range(..=checked::LAST))]
     pub last: Option<u32>,
+}
+
+/// Who is convicted. The number of a general says nothing of another run.
+#[derive(Debug, Clone, PartialEq, Eq, PartialOrd, Ord)]
+pub enum Who {
+    /// A node of the system, where an admission shows the run.
+    Node(u32),
+    /// Whoever has the keys of a root.
+    Root(String),
 }
 
 /// What is found.
 #[derive(Debug, Clone, Default, PartialEq, Eq)]
 pub struct Found {
     pub number: Option<u32>,
+    /// The last of several numbers side by side, of which `number` is the first.
+    pub last: Option<u32>,
     pub run_id: Option<String>,
-    /// A node by its number in the system, if `is_node`, and otherwise by that in the run.
-    pub node: Option<u32>,
-    pub is_node: bool,
-    /// The number of the node in the run, if it is known.
+    pub who: Option<Who>,
+    /// The number in the run of who is convicted, if it is known.
     pub general: Option<u32>,
     pub kind: Option<String>,
     /// The ids of all runs of the file of a conviction, in their order.
@@ -82,6 +94,7 @@ pub struct Kept {
     pub findings: Vec<String>,
     /// The node that each general is, if an admission shows it.
     pub nodes: Vec<u32>,
+    /// Who is convicted by what, as `node 3 by K2`, or `general 3 by K2` where no admission shows the run.
     pub convicted: Vec<String>,
     pub fault: Option<String>,
     pub path: Option<PathBuf>,
@@ -96,6 +109,18 @@ pub struct Kept {
     pub gone: bool,
 }
 
+/// A file whose digest an index has.
+#[derive(Debug, Clone, PartialEq, Eq)]
+pub struct Digest {
+    pub path: PathBuf,
+    pub sha256: String,
+    pub number: Option<u32>,
+    /// The answer on a file of an archive.
+    pub said: Option<String>,
+    /// The node and the kind of evidence that a watcher has stored.
+    pub evidence: Option<(u32, String)>,
+}
+
 /// An index that is open for reading.
 pub struct Reader {
     database: Connection,
@@ -104,12 +129,6 @@ pub struct Reader {
     pub system: Option<String>,
     /// Whether admissions tell the numbers of runs.
     pub has_admissions: bool,
-}
-
-/// A name as lines have it: without line feeds, tabs, and other characters that a terminal acts on.
-pub fn spelled(path: &Path) -> String {
-    let name = path.to_string_lossy().replace('\\', "\\\\").replace('\t', "\\t").replace('\n', "\\n");
-    name.chars().map(|it| if it.is_control() { '?' } else { it }).collect()
 }
 
 /// A path as JSON: a text, with the bytes beside it if they are no text.
@@ -124,14 +143,26 @@ pub fn put_path(object: &mut Map<String, Value>, path: &Path) {
 impl Found {
     /// It as a line.
     pub fn line(&self) -> String {
-        let run = match (self.number, &self.run_id) {
-            (Some(number), _) => Some(format!("run {number}")),
-            (None, Some(id)) => Some(format!("run {id}")),
-            (None, None) => None,
+        let run = match (self.number, self.last, &self.run_id) {
+            (Some(number), Some(last), _) => Some(format!("runs {number} to {last}")),
+            (Some(number), None, _) => Some(format!("run {number}")),
+            (None, _, Some(id)) => Some(format!("run {id}")),
+            (None, _, None) => None,
         };
         let files = self.files.iter().map(|path| spelled(path)).collect::<Vec<_>>().join(", ");
         let files = (!files.is_empty()).then_some(files);
-        run.into_iter().chain([self.said.clone()]).chain(files).collect::<Vec<_>>().join(": ")
+        run.into_iter().chain([spelled(&self.said)]).chain(files).collect::<Vec<_>>().join(": ")
+    }
+
+    /// How many runs it is of.
+    pub fn count(&self) -> u32 {
+        let further = self.number.zip(self.last).map_or(0, |(number, last)| last - number);
+        further + 1
+    }
+
+    /// Whether it convicts a general of a run that has no number.
+    pub fn is_numberless(&self) -> bool {
+        matches!(self.who, Some(Who::Root(_)))
     }
 
     pub fn json(&self) -> Value {
@@ -140,11 +171,19 @@ impl Found {
             put_path(&mut object, path);
             Value::Object(object)
         };
+        let (node, root) = match &self.who {
+            Some(Who::Node(node)) => (Some(node), None),
+            Some(Who::Root(root)) => (None, Some(root)),
+            None => (None, None),
+        };
         json!({
             "files": self.files.iter().map(object).collect::<Vec<_>>(),
+            "general": self.general,
             "kind": self.kind,
-            "node": self.node,
+            "last": self.last,
+            "node": node,
             "number": self.number,
+            "root": root,
             "run": self.run_id,
             "said": self.said,
         })
@@ -204,8 +243,9 @@ impl Kept {
 }
 
 impl Reader {
+    /// Opens an index, which anybody may have made, and looks through all of it.
     pub fn open(path: &Path) -> Result<Reader, End> {
-        let database = index::connect_to_read(path).map_err(End::file(path))?;
+        let database = checked::open(path, include_str!("views.sql"))?;
         let mut reader = Reader { database, path: path.to_owned(), system: None, has_admissions: false };
         let told = reader.prepare();
         (reader.system, reader.has_admissions) = reader.told(told)?;
@@ -213,15 +253,13 @@ impl Reader {
     }
 
     fn prepare(&self) -> Asked<(Option<String>, bool)> {
-        self.database.busy_timeout(std::time::Duration::from_secs(10))?;
-        self.database.execute_batch(include_str!("views.sql"))?;
         let system: String = self.database.query_row("SELECT id FROM system", [], |row| row.get(0))?;
         let has = self.database.query_row("SELECT count(*) > 0 FROM admitted", [], |row| row.get(0))?;
         Ok(((!system.is_empty()).then_some(system), has))
     }
 
     fn told<T>(&self, told: Asked<T>) -> Result<T, End> {
-        told.map_err(|told| End::unusable(self.path.display(), &index::failed(told)))
+        told.map_err(|told| checked::end_of(&self.path, &told))
     }
 
     /// Rows of an order.
@@ -294,31 +332,64 @@ impl Reader {
             () if !admitted.is_empty() && !admitted.contains(number) => "no file that can be judged, and no admission",
             () => "no file that can be judged",
         };
-        let gaps = (first..=last).filter(|number| !there.contains(number));
-        Ok(gaps.map(|it| Found { number: Some(it), said: said(&it).into(), ..Found::default() }).collect())
+        let mut gaps = Gaps::default();
+        let mut next = first;
+        let known: BTreeSet<u32> = there.iter().chain(&of_watcher).chain(&admitted).copied().collect();
+        for number in known.range(first..=last) {
+            if next < *number {
+                gaps.put(next, number - 1, said(&next));
+            }
+            if !there.contains(number) {
+                gaps.put(*number, *number, said(number));
+            }
+            next = number + 1;
+        }
+        if next <= last {
+            gaps.put(next, last, said(&next));
+        }
+        Ok(gaps.0)
     }
 
     fn convictions(&self) -> Result<Vec<Found>, End> {
-        self.rows("SELECT * FROM blamed ORDER BY is_node DESC, node, number, run_id, path, place, other", |row| {
-            let (node, kind, is_node) =
-                (row.get::<_, u32>("node")?, row.get::<_, String>("kind")?, row.get("is_node")?);
+        self.rows("SELECT * FROM blamed ORDER BY nodes IS NULL, node, number, run_id, path, place, other", |row| {
+            let (node, kind) = (row.get::<_, u32>("node")?, row.get::<_, String>("kind")?);
             let (place, other): (u32, u32) = (row.get("place")?, row.get("other")?);
             let across = if place == other { String::new() } else { format!(" across {place} {other}") };
-            let word = if is_node { "node" } else { "general" };
             let nodes: Option<String> = row.get("nodes")?;
             let nodes: Option<Vec<u32>> = nodes.and_then(|it| serde_json::from_str(&it).ok());
-            let general = nodes.and_then(|nodes| (0..).zip(nodes).find(|it| it.1 == node)).map(|it| it.0);
+            let (who, general) = match nodes {
+                Some(nodes) => (Who::Node(node), (0..).zip(nodes).find(|it| it.1 == node).map(|it| it.0)),
+                None => (Who::Root(row.get("root")?), Some(node)),
+            };
+            let named = match &who {
+                Who::Node(node) => format!("node {node}"),
+                Who::Root(root) => format!("general {node}, of root {root},"),
+            };
             Ok(Found {
                 number: row.get("number")?,
                 run_id: row.get("run_id")?,
-                node: Some(node),
-                is_node,
-                general: if is_node { general } else { Some(node) },
+                who: Some(who),
+                general,
                 evidence: row.get("evidence")?,
                 runs: list(row, "runs")?,
                 files: vec![path_of(row.get_ref("path")?)],
-                said: format!("{word} {node} is convicted by {kind}{across}"),
+                said: format!("{named} is convicted by {kind}{across}"),
                 kind: Some(kind),
+                ..Found::default()
+            })
+        })
+    }
+
+    /// The files whose digests the index has, by their paths.
+    pub fn digests(&self) -> Result<Vec<Digest>, End> {
+        self.rows("SELECT * FROM digests ORDER BY path", |row| {
+            let (node, kind): (Option<u32>, Option<String>) = (row.get("node")?, row.get("kind")?);
+            Ok(Digest {
+                path: path_of(row.get_ref("path")?),
+                sha256: row.get("sha256")?,
+                number: row.get("number")?,
+                said: row.get("said")?,
+                evidence: node.zip(kind),
             })
         })
     }
@@ -400,6 +471,24 @@ impl Reader {
     }
 }
 
+/// Runs that are missing, in ranges.
+#[derive(Default)]
+struct Gaps(Vec<Found>);
+
+impl Gaps {
+    /// Puts numbers behind those that are there.
+    fn put(&mut self, first: u32, last: u32, said: &str) {
+        if let Some(it) = self.0.last_mut().filter(|it| it.said == said) {
+            if it.last.or(it.number).and_then(|last| last.checked_add(1)) == Some(first) {
+                it.last = Some(last);
+                return;
+            }
+        }
+        let last = (last > first).then_some(last);
+        self.0.push(Found { number: Some(first), last, said: said.into(), ..Found::default() });
+    }
+}
+
 #[cfg(test)]
 mod tests {
     use super::super::files::Stamp;
@@ -449,7 +538,7 @@ mod tests {
         );
         let convicted = ["run 3: node 2 is convicted by K2: /a/3", "run 3: node 2 is convicted by K2: /a/3 again"];
         assert_eq!(asked(Question::Convictions), convicted);
-        let said = "agreed 1, convicted 2 by K2; agreed 1, convicted 2 by K2";
+        let said = "agreed 1, convicted node 2 by K2; agreed 1, convicted node 2 by K2";
         assert_eq!(asked(Question::Doubles), [format!("run 3: 2 files, the same bytes: {said}: /a/3, /a/3 again")]);
         let unknown = format!("{eight}the index has no admissions (explained 1): /a/8");
         assert_eq!(asked(Question::Unknown), [unknown, "an admission: of another system: 9.admission".into()]);
@@ -460,34 +549,73 @@ mod tests {
         assert_eq!(asked(Question::Verdicts), [format!("{eight}explained 1: /a/8")]);
         assert_eq!(asked(Question::Faults), ["fault B2: /a/bad"]);
         let found = reader.ask(Question::Convictions, Range::default()).expect("an answer");
-        assert_eq!((found[0].general, &found[0].json()["node"]), (Some(1), &json!(2)));
+        assert_eq!((found[0].general, &found[0].json()["node"], found[0].is_numberless()), (Some(1), &json!(2), false));
         std::fs::remove_dir_all(folder).expect("a folder");
     }
 
     #[test]
-    fn an_index_of_a_watcher_that_has_no_tables_of_archives() {
+    fn an_index_of_a_watcher() {
         let (folder, _) = filled("watchers");
         let path = folder.join("index");
-        let database = Connection::open(&path).expect("an index");
-        let drop =
-            "DROP TABLE files; DROP TABLE answers; DROP TABLE accused; DROP TABLE earlier; DROP TABLE admissions;
-            DROP TABLE admitted; INSERT INTO convictions VALUES (7, 1, 'K1', '0/7.node-1.evidence');
+        let (run, file) = ("a".repeat(64), "d".repeat(64));
+        let rows = format!(
+            "DELETE FROM files; DELETE FROM answers; DELETE FROM accused; DELETE FROM earlier;
+            INSERT INTO convictions VALUES (7, 1, 'K1', '0/7.node-1.evidence');
             INSERT INTO changes VALUES (1, 7, 'no', NULL, '[]', '[]', NULL, NULL, 'a', 1);
-            INSERT INTO runs VALUES (7, 'a7', 'agreed', 0, '[]', '[]', '[]', '0/7.bundle.zst', 'd7', 9, 5, 'a', 2),
-            (8, 'a8', 'gap', NULL, '[0]', '[]', '[0]', NULL, NULL, NULL, NULL, 'a', 2)";
-        database.execute_batch(drop).expect("an index");
+            INSERT INTO runs VALUES (7, '{run}', 'agreed', 0, '[]', '[]', '[]', '0/7.bundle.zst', '{file}', 9, 5, 'a', 2, '[3,0,1,2]'),
+            (8, '{run}', 'gap', NULL, '[0]', '[]', '[0]', NULL, NULL, NULL, NULL, 'a', 2, '[0,1,2,3]');
+            INSERT INTO stored VALUES ('0/7.bundle.zst', 7, '{file}', NULL, NULL), ('0/7.node-1.evidence', 7, '{run}', 1, 'K1');"
+        );
+        Connection::open(&path).and_then(|index| index.execute_batch(&rows)).expect("an index");
         let reader = Reader::open(&path).expect("an index");
         assert_eq!(lines(&reader, Question::Gaps, Range::default()), ["run 8: no log came"]);
         let convicted = ["run 7: node 1 is convicted by K1: 0/7.bundle.zst"];
         assert_eq!(lines(&reader, Question::Convictions, Range::default()), convicted);
+        assert_eq!(reader.ask(Question::Convictions, Range::default()).expect("an answer")[0].general, Some(2));
         let changed = ["run 7: agreed 0, before no: other bytes"];
         assert_eq!(lines(&reader, Question::Changed, Range::default()), changed);
         assert_eq!(reader.kept(Kept::is_there).expect("rows").len(), 1);
+        let digests = reader.digests().expect("rows");
+        let told: Vec<_> = digests.iter().map(|it| (it.path.to_str(), it.number, it.evidence.clone())).collect();
+        let evidence = Some((1, "K1".to_owned()));
+        assert_eq!(told, [(Some("0/7.bundle.zst"), Some(7), None), (Some("0/7.node-1.evidence"), Some(7), evidence)]);
         std::fs::remove_dir_all(folder).expect("a folder");
     }
 
     #[test]
-    fn names_that_a_terminal_shows() {
-        assert_eq!(spelled(Path::new("a\\b\tc\nd\u{1b}[31m")), "a\\\\b\\tc\\nd?[31m");
+    fn generals_of_runs_without_numbers() {
+        let (folder, mut store) = index("numberless");
+        let files = [("/a/1", judged('1', None, "agreed", true)), ("/a/\u{202e}2", judged('2', None, "agreed", true))];
+        let files: Vec<_> = files.into_iter().map(|(path, outcome)| (PathBuf::from(path), outcome)).collect();
+        store.write(&judge("a"), &files).expect("a disk");
+        store.close().expect("a disk");
+        let reader = Reader::open(&folder.join("index")).expect("an index");
+        let found = reader.ask(Question::Convictions, Range::default()).expect("an answer");
+        let root = "e".repeat(64);
+        let line = |run: &str, file: &str| {
+            format!("run {}: general 1, of root {root}, is convicted by K2: {file}", run.repeat(64))
+        };
+        assert_eq!(found.iter().map(Found::line).collect::<Vec<_>>(), [line("1", "/a/1"), line("2", "/a/\\u{202e}2")]);
+        assert!(found.iter().all(|it| it.is_numberless() && it.who == Some(Who::Root(root.clone()))));
+        let json = found[0].json();
+        assert_eq!((&json["node"], &json["general"], &json["root"]), (&Value::Null, &json!(1), &json!(root)));
+        std::fs::remove_dir_all(folder).expect("a folder");
+    }
+
+    #[test]
+    fn gaps_are_ranges() {
+        let (folder, mut store) = index("gaps");
+        let files =
+            [("/a/3", judged('3', Some(3), "agreed", false)), ("/a/l", judged('4', Some(4_194_303), "agreed", false))];
+        let files: Vec<_> = files.into_iter().map(|(path, outcome)| (PathBuf::from(path), outcome)).collect();
+        store.write(&judge("a"), &files).expect("a disk");
+        store.close().expect("a disk");
+        let reader = Reader::open(&folder.join("index")).expect("an index");
+        let range = Range { first: Some(0), last: None };
+        let found = reader.ask(Question::Gaps, range).expect("an answer");
+        assert_eq!(found.iter().map(Found::count).collect::<Vec<_>>(), [3, 4_194_299]);
+        assert_eq!(found[1].line(), "runs 4 to 4194302: no file that can be judged");
+        assert_eq!((&found[1].json()["number"], &found[1].json()["last"]), (&json!(4), &json!(4_194_302)));
+        std::fs::remove_dir_all(folder).expect("a folder");
     }
 }

@@ -9,7 +9,7 @@ use std::os::unix::ffi::{OsStrExt, OsStringExt};
 use std::path::{Path, PathBuf};
 use std::sync::Arc;
 
-use rusqlite::types::{Value, ValueRef};
+use rusqlite::types::{Type, Value, ValueRef};
 use rusqlite::{params, Connection, OptionalExtension, Row, Transaction};
 
 use super::files::Stamp;
@@ -83,7 +83,8 @@ fn text(of: &impl serde::Serialize) -> String {
 
 /// A list in a column.
 pub fn list<T: serde::de::DeserializeOwned>(row: &Row, column: &str) -> Asked<Vec<T>> {
-    Ok(serde_json::from_str(&row.get::<_, String>(column)?).unwrap_or_default())
+    let failed = |told| rusqlite::Error::FromSqlConversionFailure(0, Type::Text, Box::new(told));
+    serde_json::from_str(&row.get::<_, String>(column)?).map_err(failed)
 }
 
 impl Store {
@@ -295,7 +296,8 @@ fn put_run(all: &Transaction, key: &Value, place: u32, run: &Run) -> Asked<()> {
     ];
     execute(all, "INSERT INTO answers VALUES (?, ?, ?, ?, ?, ?, ?, ?, ?, ?, ?, ?)", of)?;
     for it in &run.accused {
-        execute(all, "INSERT INTO accused VALUES (?, ?, ?, ?, ?)", params![key, place, it.node, it.kind, it.other])?;
+        let of = params![key, place, it.node, it.kind, it.other, it.root];
+        execute(all, "INSERT INTO accused VALUES (?, ?, ?, ?, ?, ?)", of)?;
     }
     Ok(())
 }
@@ -319,8 +321,9 @@ pub mod tests {
             "input":{{"sha256":"{run_id}"}},"logs":[],"order":1,"run":"{run_id}","statuses":[],"verdict":"{verdict}"}}"#,
             admitted.unwrap_or_default()
         );
-        let answer = Ok(Answer::of(json).expect("an answer"));
-        Outcome::Judged { stamp: Stamp { bytes: 9, modified: 1 }, sha256: Some(run_id), answer }
+        let mut answer = Answer::of(json).expect("an answer");
+        answer.runs[0].accused.iter_mut().for_each(|it| it.root = "e".repeat(64));
+        Outcome::Judged { stamp: Stamp { bytes: 9, modified: 1 }, sha256: Some(run_id), answer: Ok(answer) }
     }
 
     /// An index in a folder of its own.

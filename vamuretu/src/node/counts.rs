@@ -14,6 +14,10 @@ pub struct Counts {
     pub lost: IntCounter,
     pub refused: IntCounterVec,
     pub dropped: IntCounterVec,
+    pub barred: IntCounterVec,
+    pub unsent: IntCounter,
+    pub worthless: IntCounter,
+    pub local_refused: IntCounterVec,
     pub connected: IntGaugeVec,
     pub under_way: IntGauge,
     pub newest: IntGauge,
@@ -22,6 +26,9 @@ pub struct Counts {
     pub may_begin: IntGauge,
     pub offset: Gauge,
     pub most_error: Gauge,
+    pub clock_error: Gauge,
+    pub clock_silent: Gauge,
+    pub clock_ahead: Gauge,
     pub steps: IntGauge,
     pub round: Histogram,
     pub decision: Histogram,
@@ -30,6 +37,10 @@ pub struct Counts {
     pub spool_waiting: IntGauge,
     pub spool_refused: IntCounter,
     pub spool_given_up: IntCounter,
+    pub spool_stuck: IntGauge,
+    pub spool_unstored: IntGauge,
+    pub spool_late: IntCounter,
+    pub spool_lost: IntCounter,
 }
 
 /// Seconds from a sixty-fourth of a length to sixteen times it.
@@ -85,24 +96,42 @@ impl Counts {
             lost: make.counter("frames_lost_total", "Frames that had not come when their round ended."),
             refused: make.counters("frames_refused_total", "Frames that were refused, by their fault.", "fault"),
             dropped: make.counters("frames_dropped_total", "Frames that a full queue dropped.", "peer"),
+            barred: make.counters("frames_barred_total", "Frames behind too many that were refused.", "peer"),
+            unsent: make.counter("frames_unsent_total", "Frames that the kernel did not have by half of their round."),
+            worthless: make
+                .counter("decisions_worthless_total", "Decisions that are worth nothing alone: `holds` is false."),
+            local_refused: make.counters("local_refused_total", "Applications that were ended or refused.", "reason"),
             connected: make.gauges("connected", "1 while the neighbour is connected.", "peer"),
             under_way: make.gauge("runs_under_way", "Runs that are under way."),
             newest: make.gauge("newest_run", "The number of the newest run that was begun, or -1."),
             sets_left: make.gauge("sets_left", "Sets of keys behind the newest run."),
             synchronised: make.gauge("clock_synchronised", "1 if the kernel says that the clock is synchronised."),
-            may_begin: make.gauge("may_begin", "1 if the clock lets runs begin."),
+            may_begin: make.gauge("may_begin", "1 if the clock and the mark let runs begin."),
             offset: make.seconds("clock_offset", "What the kernel still has to correct."),
             most_error: make.seconds("clock_most_error", "The kernel's bound of the error."),
+            clock_error: make.seconds("clock_error", "How wrong the clock may be, which bound_ms bounds."),
+            clock_silent: make.seconds("clock_silent", "For how long no daemon has set the clock, at most."),
+            clock_ahead: make.seconds("clock_ahead", "The step ahead that waits to be accepted, or 0."),
             steps: make.gauge("clock_steps", "How often the clock was set to another time."),
             round: make.histogram("round", "From the beginning of a round by the clock to its end.", round_ms),
             decision: make.histogram("decision", "From the beginning of a run by the clock to the decision.", round_ms),
             spool_bytes: make.gauge("spool_bytes", "Bytes of the logs that are kept."),
             spool_logs: make.gauge("spool_logs", "Logs that are kept."),
             spool_waiting: make.gauge("spool_waiting", "Logs that no watcher has acknowledged, or not each."),
-            spool_refused: make.counter("spool_refused_total", "Logs that were not kept: no room, or a fault."),
+            spool_refused: make
+                .counter("spool_refused_total", "Logs that were not on the disk when their decision was told."),
             spool_given_up: make.counter("spool_given_up_total", "Acknowledged logs that went before their time."),
+            spool_stuck: make.gauge("spool_stuck", "Logs that are passed by: they can't be handed to a watcher."),
+            spool_unstored: make.gauge("spool_unstored", "Logs that wait in memory for the disk."),
+            spool_late: make.counter("spool_late_total", "Logs that the disk took after their decision was told."),
+            spool_lost: make
+                .counter("spool_lost_total", "Logs that are lost: the disk did not take them for too long."),
             registry: make.0,
         };
+        counts.registry.register(Box::new(crate::lines::dropped())).expect("a name that is new");
+        for reason in ["newer", "listeners", "request", "unread"] {
+            counts.local_refused.with_label_values(&[reason]).inc_by(0);
+        }
         for fault in 1..=8 {
             counts.refused.with_label_values(&[&format!("F{fault}")]).inc_by(0);
         }

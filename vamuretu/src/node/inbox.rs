@@ -15,7 +15,14 @@ pub enum Refused {
     Fault(NodeFault),
     /// Its round has ended, or a frame of this round and sender is there.
     Late,
+    /// Too many frames of this round and sender were refused by the node.
+    Barred,
 }
+
+/// After so many frames of a neighbour and a round that the node has refused, no further one is looked at. A frame comes from
+/// the neighbour alone: over pinned connections by its key, and over plain ones by the tunnel that protects them. So a
+/// neighbour whose frames are refused is faulty, and nobody else's frame is barred.
+const MOST_REFUSED: u32 = 4;
 
 /// The frames of one run that came, at most one for each neighbour and round.
 pub struct Inbox {
@@ -35,6 +42,8 @@ pub struct Inbox {
 struct Kept {
     frames: BTreeMap<(u32, u32), Vec<u8>>,
     taken: BTreeSet<(u32, u32)>,
+    /// How many frames the node has refused.
+    refused: BTreeMap<(u32, u32), u32>,
     ended: u32,
 }
 
@@ -87,6 +96,9 @@ impl Inbox {
         if head.round <= kept.ended || kept.taken.contains(&place) || kept.frames.contains_key(&place) {
             return Err(Refused::Late);
         }
+        if kept.refused.get(&place).map_or(false, |&count| count >= MOST_REFUSED) {
+            return Err(Refused::Barred);
+        }
         kept.frames.insert(place, frame);
         self.come.notify_all();
         Ok(())
@@ -104,11 +116,17 @@ impl Inbox {
         self.kept().taken.insert((round, general));
     }
 
+    /// Notes that the node has refused a general's frame of a round.
+    pub fn is_refused(&self, round: u32, general: u32) {
+        *self.kept().refused.entry((round, general)).or_default() += 1;
+    }
+
     /// Drops what is left of a round that has ended, and of those before.
     pub fn end(&self, round: u32) {
         let mut kept = self.kept();
         kept.ended = round;
         kept.frames.retain(|place, _| place.0 > round);
+        kept.refused.retain(|place, _| place.0 > round);
     }
 
     /// Waits until a frame of the round is there, or until a moment.
@@ -178,6 +196,19 @@ mod tests {
         inbox.end(1);
         assert_eq!(inbox.offer(2, &FrameHead { sender: 0, ..HEAD }, vec![6]), Err(Refused::Late));
         assert_eq!(inbox.take(2), Some((2, vec![2])));
+    }
+
+    #[test]
+    fn a_neighbour_whose_frames_are_refused_is_barred_for_the_round() {
+        let inbox = inbox();
+        for _ in 0..MOST_REFUSED {
+            assert_eq!(inbox.offer(1, &HEAD, vec![1]), Ok(()));
+            assert_eq!(inbox.take(1), Some((2, vec![1])));
+            inbox.is_refused(1, 2);
+        }
+        assert_eq!(inbox.offer(1, &HEAD, vec![1]), Err(Refused::Barred));
+        assert_eq!(inbox.offer(2, &FrameHead { sender: 0, ..HEAD }, vec![2]), Ok(()), "another neighbour's");
+        assert_eq!(inbox.offer(1, &FrameHead { round: 2, ..HEAD }, vec![3]), Ok(()), "another round's");
     }
 
     #[test]

@@ -2,19 +2,19 @@
 //!
 //! The state is the record of 68 bytes of the set whose runs are being made. The mark is a text beside it, with the number of
 //! the newest run that may have signed. No run at or below the mark begins again. So after a crash the next run may be of the
-//! same set. Nobody else may use the state: `KeptState` of the packages hands the seed of its set out again.
+//! same set. Nobody else may use the state: `KeptState` of the packages hands the seed of its set out again. A node has the
+//! folders of both files for itself.
 
-use std::fs::{self, File, OpenOptions};
+use std::fs::{self, File};
 use std::io::Read;
 use std::os::unix::fs::MetadataExt;
-use std::os::unix::io::AsRawFd;
 use std::path::{Path, PathBuf};
 
-use nix::fcntl::{flock, FlockArg};
 use vamuretu::{Fault, Keys, Secret, SetState, Version};
 
 use crate::config::{Id, NodeFile};
-use crate::{disk, End};
+use crate::disk::{self, Lock};
+use crate::End;
 
 const STATE_BYTES: usize = 68;
 const SECRET_BYTES: usize = 32;
@@ -22,13 +22,13 @@ const SECRET_BYTES: usize = 32;
 const OTHERS: u32 = 0o077;
 
 /// The text of a mark.
-fn mark_text(mark: Option<u32>, system: &Id) -> String {
+pub fn mark_text(mark: Option<u32>, system: &Id) -> String {
     let run = mark.map_or("none".into(), |run| run.to_string());
     format!("newest run {run}\nsystem {}\n", hex::encode(system))
 }
 
 /// The mark that a text is, of this system.
-fn read_mark(text: &str, system: &Id) -> Option<Option<u32>> {
+pub fn read_mark(text: &str, system: &Id) -> Option<Option<u32>> {
     let run = text.strip_prefix("newest run ")?.split_once('\n')?.0;
     let mark = if run == "none" { None } else { Some(run.parse().ok()?) };
     (mark_text(mark, system) == text).then_some(mark)
@@ -51,20 +51,10 @@ fn wrong(path: &Path) -> impl Fn(Fault) -> End + '_ {
     move |told| End::fault(path, told)
 }
 
-/// Takes the lock of a state, which the process then has until it ends.
-fn lock(state: &Path) -> Result<File, End> {
-    let path = state.with_extension("lock");
-    let file = OpenOptions::new().create(true).append(true).open(&path).map_err(End::file(&path))?;
-    match flock(file.as_raw_fd(), FlockArg::LockExclusiveNonblock) {
-        Ok(()) => Ok(file),
-        Err(told) => Err(End::failed(format!("{}: another process has the state ({told})", path.display()))),
-    }
-}
-
 /// Makes the state and the mark of a node that has signed nothing yet. Neither may be there.
 pub fn keep(file: &NodeFile, secret: &Path) -> Result<(), End> {
     let (state, mark) = (&file.node.state, file.node.mark());
-    let _lock = lock(state)?;
+    let _locks = Lock::take_all(&[state, &mark])?;
     for path in [state, &mark] {
         if fs::symlink_metadata(path).is_ok() {
             return Err(End::fault(path, "it is there already: a second state of one secret signs twice"));
@@ -84,20 +74,22 @@ pub struct Keeper {
     state: SetState,
     mark: Option<u32>,
     keys: Option<(u32, Keys)>,
-    _lock: File,
+    _locks: Vec<Lock>,
 }
 
 impl Keeper {
     pub fn open(file: &NodeFile) -> Result<Keeper, End> {
         let (state_path, mark_path, system) = (file.node.state.clone(), file.node.mark(), file.system.id);
-        let lock = lock(&state_path)?;
+        let _locks = Lock::take_all(&[&state_path, &mark_path])?;
+        disk::refuse_links(&state_path)?;
         let state = SetState::of_bytes(&read_secret::<STATE_BYTES>(&state_path)?);
         if state.system() != system {
             return Err(End::fault(&state_path, "of another system"));
         }
+        disk::refuse_links(&mark_path)?;
         let text = fs::read_to_string(&mark_path).map_err(End::file(&mark_path))?;
         let mark = read_mark(&text, &system).ok_or_else(|| End::fault(&mark_path, "no mark of this system"))?;
-        Ok(Keeper { state_path, mark_path, system, state, mark, keys: None, _lock: lock })
+        Ok(Keeper { state_path, mark_path, system, state, mark, keys: None, _locks })
     }
 
     /// The number of the newest run that may have signed.
@@ -112,6 +104,7 @@ impl Keeper {
             return Err(End::failed(format!("run {run} is not above the mark")));
         }
         self.mark = Some(run);
+        [&self.state_path, &self.mark_path].into_iter().try_for_each(|path| disk::refuse_links(path))?;
         if set != self.state.number() {
             let state = self.state.advance_to(set).map_err(wrong(&self.state_path))?;
             disk::put(&self.state_path, 0o600, state.as_bytes()).map_err(End::file(&self.state_path))?;

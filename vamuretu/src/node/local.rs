@@ -3,26 +3,41 @@
 //! A value is an object, `{"name": ..}` for an order of the configuration's table: other members may come for other values.
 
 use std::io::{self, BufRead, BufReader, Lines, Write};
-use std::os::unix::fs::PermissionsExt;
-use std::os::unix::net::UnixStream as Client;
+use std::os::unix::fs::{FileTypeExt, PermissionsExt};
+use std::os::unix::net::UnixStream as Asking;
 use std::path::Path;
 use std::sync::atomic::Ordering;
 use std::sync::Arc;
+use std::time::Duration;
 
 use serde::{Deserialize, Serialize};
 use serde_json::{json, Value as Json};
-use tokio::io::{AsyncBufReadExt, AsyncReadExt, AsyncWriteExt};
+use tokio::io::{AsyncBufRead, AsyncBufReadExt, AsyncWriteExt};
+use tokio::net::unix::{OwnedReadHalf, OwnedWriteHalf};
 use tokio::net::{UnixListener, UnixStream};
 use tokio::sync::broadcast::{error::RecvError, Receiver};
+use tokio::sync::{OwnedSemaphorePermit, Semaphore};
+use tokio::time::{timeout, timeout_at, Instant};
 
 use super::runs::Outcome;
-use super::Shared;
+use super::{worth, Shared};
+use crate::clock::Look;
 use crate::config::NodeFile;
+use crate::doors::{Place, Places};
 use crate::systems::Run;
 use crate::End;
 
-/// The most bytes of a request.
-const MOST_LINE: u64 = 4096;
+/// The most bytes of a request, and how long one may take from its first byte on.
+const MOST_LINE: usize = 4096;
+const MOST_REQUEST: Duration = Duration::from_secs(5);
+/// An application that does not take a line for so long is closed.
+const MOST_WRITING: Duration = Duration::from_secs(5);
+/// How many applications may listen to decisions: one more is refused.
+const MOST_LISTENERS: usize = 32;
+/// How many others there may be: for one more the oldest is closed.
+const MOST_ASKERS: usize = 32;
+/// The descriptors of this door.
+pub const DESCRIPTORS: usize = MOST_LISTENERS + MOST_ASKERS + 1;
 
 /// A value, as applications have it.
 #[derive(Debug, Clone, PartialEq, Eq, Serialize, Deserialize)]
@@ -34,7 +49,7 @@ pub struct Value {
 /// What an application asks for.
 #[derive(Debug, Deserialize)]
 #[serde(tag = "ask", rename_all = "lowercase", deny_unknown_fields)]
-enum Request {
+pub enum Request {
     /// That the node proposes a value in a run of its own, without a number in the next.
     Propose {
         value: Value,
@@ -45,43 +60,51 @@ enum Request {
     Status,
     /// That the node begins no run, and ends.
     Drain,
-}
-
-/// What a decision is worth.
-fn worth(outcome: &Outcome, traitors: u32) -> String {
-    match outcome.late {
-        None => format!("if at most {traitors} nodes are faulty in this run, each correct node decides this"),
-        Some(round) => format!(
-            "nothing alone: this node was behind the clock in round {round}, and counts as faulty; receipts of {} other \
-             nodes show the decision",
-            traitors + 1
-        ),
-    }
+    /// That the clock is believed, which was set ahead.
+    #[serde(rename = "accept-step")]
+    AcceptStep,
 }
 
 /// The line of a decision.
 pub fn decision_line(file: &NodeFile, run: &Run, outcome: &Outcome, is_stored: bool) -> Arc<str> {
+    let (known, doubt) = (&outcome.known, outcome.known.doubt(run.traitors));
     let decided = json!({
         "run": run.number,
         "run_id": hex::encode(run.run_id),
         "order": outcome.order,
         "value": file.name_of(outcome.order).map(|name| json!({ "name": name })),
         "proposer": run.nodes.first(),
-        "in_time": outcome.late.is_none(),
-        "lacked": outcome.lacked,
+        "holds": doubt.is_none(),
+        "in_time": known.late(run.traitors).is_none(),
+        "lacked": known.lacked,
+        "unsent": known.unsent,
         "log_stored": is_stored,
-        "worth": worth(outcome, run.traitors),
+        "worth": worth::sentence(doubt.as_ref(), run.traitors),
         "receipt": base64::encode(&outcome.receipt),
     });
     json!({ "decided": decided }).to_string().into()
 }
 
+/// Takes away a socket that nobody serves. Nothing else that is there is touched.
+fn make_way(path: &Path) -> Result<(), End> {
+    match std::fs::symlink_metadata(path) {
+        Err(told) if told.kind() == io::ErrorKind::NotFound => return Ok(()),
+        Err(told) => return Err(End::unusable(path.display(), &told)),
+        Ok(told) if !told.file_type().is_socket() => return Err(End::fault(path, "it is there, and is no socket")),
+        Ok(_) => {}
+    }
+    match Asking::connect(path) {
+        Ok(_) => Err(End::failed(format!("{}: another process listens there", path.display()))),
+        Err(told) if told.kind() == io::ErrorKind::ConnectionRefused => {
+            std::fs::remove_file(path).map_err(End::file(path))
+        }
+        Err(told) => Err(End::unusable(path.display(), &told)),
+    }
+}
+
 /// Takes the place of a socket that nobody serves, and listens there.
 pub fn listen(path: &Path) -> Result<UnixListener, End> {
-    if Client::connect(path).is_ok() {
-        return Err(End::failed(format!("{}: another process listens there", path.display())));
-    }
-    let _ = std::fs::remove_file(path);
+    make_way(path)?;
     let listener = UnixListener::bind(path).map_err(End::file(path))?;
     std::fs::set_permissions(path, std::fs::Permissions::from_mode(0o660)).map_err(End::file(path))?;
     Ok(listener)
@@ -89,28 +112,29 @@ pub fn listen(path: &Path) -> Result<UnixListener, End> {
 
 /// Serves applications, for ever.
 pub async fn serve(shared: Arc<Shared>, listener: UnixListener) {
+    let (askers, listeners) = (Places::new(MOST_ASKERS, MOST_ASKERS), Arc::new(Semaphore::new(MOST_LISTENERS)));
     loop {
         match listener.accept().await {
             Ok((stream, _)) => {
-                let shared = shared.clone();
+                let (place, client) = (askers.take(()), Client::new(shared.clone(), listeners.clone(), stream));
                 tokio::spawn(async move {
-                    if let Err(told) = talk(&shared, stream).await {
+                    if let Err(told) = client.serve(place).await {
                         tracing::debug!(%told, "an application is gone");
                     }
                 });
             }
             Err(told) => {
                 tracing::warn!(%told, "no application was taken");
-                tokio::time::sleep(std::time::Duration::from_millis(100)).await;
+                tokio::time::sleep(Duration::from_millis(100)).await;
             }
         }
     }
 }
 
 /// The next decision, if this application asked for decisions.
-async fn next_decision(decisions: &mut Option<Receiver<Arc<str>>>) -> Arc<str> {
-    match decisions {
-        Some(decisions) => match decisions.recv().await {
+async fn next_decision(listening: &mut Option<Listening>) -> Arc<str> {
+    match listening {
+        Some(listening) => match listening.decisions.recv().await {
             Ok(line) => line,
             Err(RecvError::Lagged(count)) => json!({ "missed_decisions": count }).to_string().into(),
             Err(RecvError::Closed) => std::future::pending().await,
@@ -119,48 +143,167 @@ async fn next_decision(decisions: &mut Option<Receiver<Arc<str>>>) -> Arc<str> {
     }
 }
 
-/// Answers one application, until it is gone.
-async fn talk(shared: &Shared, stream: UnixStream) -> io::Result<()> {
-    let (from, mut to) = stream.into_split();
-    let mut from = tokio::io::BufReader::new(from);
-    let (mut decisions, mut line) = (None, Vec::new());
-    loop {
-        let left = MOST_LINE.saturating_sub(line.len() as u64);
-        let mut limited = (&mut from).take(left);
-        let answer: Arc<str> = tokio::select! {
-            told = limited.read_until(b'\n', &mut line) => {
-                if told? == 0 {
-                    return Ok(());
-                }
-                if line.last() != Some(&b'\n') {
-                    continue;
-                }
-                let answer = answer(shared, &line, &mut decisions);
-                line.clear();
-                answer.to_string().into()
+/// What an application has that listens to decisions: its place, too.
+struct Listening {
+    decisions: Receiver<Arc<str>>,
+    _place: OwnedSemaphorePermit,
+}
+
+/// The requests of an application, line by line.
+struct Requests {
+    from: tokio::io::BufReader<OwnedReadHalf>,
+    limit: Duration,
+    /// What has come of a request, and when all of it has to be there.
+    line: Vec<u8>,
+    due: Instant,
+}
+
+/// Takes what has come of a line, up to its end. Tells whether anything has.
+async fn read_some(from: &mut (impl AsyncBufRead + Unpin), line: &mut Vec<u8>) -> io::Result<bool> {
+    let come = from.fill_buf().await?;
+    let count = come.iter().position(|&byte| byte == b'\n').map_or(come.len(), |place| place + 1);
+    line.extend_from_slice(&come[..count]);
+    from.consume(count);
+    Ok(count > 0)
+}
+
+impl Requests {
+    fn new(from: OwnedReadHalf, limit: Duration) -> Requests {
+        Requests { from: tokio::io::BufReader::new(from), limit, line: vec![], due: Instant::now() }
+    }
+
+    /// The next request, or `None` at the end. If this is dropped, what has come stays.
+    async fn next(&mut self) -> io::Result<Option<Vec<u8>>> {
+        loop {
+            if self.line.len() > MOST_LINE {
+                return Err(io::Error::new(io::ErrorKind::InvalidData, "a request of more than 4096 bytes"));
             }
-            decision = next_decision(&mut decisions) => decision,
-        };
-        to.write_all(format!("{answer}\n").as_bytes()).await?;
+            if self.line.last() == Some(&b'\n') {
+                return Ok(Some(std::mem::take(&mut self.line)));
+            }
+            let is_more = if self.line.is_empty() {
+                let is_more = read_some(&mut self.from, &mut self.line).await?;
+                self.due = Instant::now() + self.limit;
+                is_more
+            } else {
+                let reading = timeout_at(self.due, read_some(&mut self.from, &mut self.line)).await;
+                reading.map_err(|_| io::Error::new(io::ErrorKind::TimedOut, "a request that does not end"))??
+            };
+            if !is_more {
+                return Ok(None);
+            }
+        }
     }
 }
 
-fn answer(shared: &Shared, line: &[u8], decisions: &mut Option<Receiver<Arc<str>>>) -> Json {
-    match serde_json::from_slice(line) {
-        Ok(Request::Propose { value, run }) => match propose(shared, &value, run) {
-            Ok((run, replaced)) => json!({ "proposed": value, "run": run, "replaced": replaced }),
-            Err(why) => json!({ "refused": why }),
-        },
-        Ok(Request::Decisions) => {
-            *decisions = Some(shared.decisions.subscribe());
-            json!({ "listening": true })
+/// An application that is connected.
+struct Client {
+    shared: Arc<Shared>,
+    listeners: Arc<Semaphore>,
+    requests: Requests,
+    to: OwnedWriteHalf,
+    listening: Option<Listening>,
+}
+
+impl Client {
+    fn new(shared: Arc<Shared>, listeners: Arc<Semaphore>, stream: UnixStream) -> Client {
+        let (from, to) = stream.into_split();
+        Client { shared, listeners, requests: Requests::new(from, MOST_REQUEST), to, listening: None }
+    }
+
+    /// Counts why the application is closed or refused.
+    fn refuse(&self, reason: &str) {
+        self.shared.counts.local_refused.with_label_values(&[reason]).inc();
+    }
+
+    /// Answers until the application is gone, or a newer one has its place. One that listens to decisions has its place until
+    /// it is gone.
+    async fn serve(mut self, place: Place<()>) -> io::Result<()> {
+        let talked = place.hold(self.talk()).await;
+        if matches!(&talked, Err(told) if told.kind() == io::ErrorKind::ConnectionAborted) {
+            self.refuse("newer");
         }
-        Ok(Request::Status) => json!({ "status": status(shared) }),
-        Ok(Request::Drain) => {
-            shared.drain();
-            json!({ "draining": true })
+        if talked? {
+            self.talk().await?;
         }
-        Err(told) => json!({ "refused": told.to_string() }),
+        Ok(())
+    }
+
+    /// Answers until the application is gone, or begins to listen to decisions. Tells whether it is here.
+    async fn talk(&mut self) -> io::Result<bool> {
+        let has_listened = self.listening.is_some();
+        while self.listening.is_some() == has_listened {
+            let line: Arc<str> = tokio::select! {
+                request = self.requests.next() => match request {
+                    Ok(Some(request)) => self.answer(&request).to_string().into(),
+                    Ok(None) => return Ok(false),
+                    Err(told) => {
+                        self.refuse("request");
+                        self.write(&json!({ "refused": told.to_string() }).to_string()).await?;
+                        return Err(told);
+                    }
+                },
+                decision = next_decision(&mut self.listening) => decision,
+            };
+            self.write(&line).await?;
+        }
+        Ok(true)
+    }
+
+    async fn write(&mut self, line: &str) -> io::Result<()> {
+        let line = format!("{line}\n");
+        let written = timeout(MOST_WRITING, self.to.write_all(line.as_bytes())).await;
+        written.unwrap_or_else(|_| {
+            self.refuse("unread");
+            Err(io::Error::new(io::ErrorKind::TimedOut, "it does not read"))
+        })
+    }
+
+    fn answer(&mut self, line: &[u8]) -> Json {
+        let shared = &self.shared;
+        match serde_json::from_slice(line) {
+            Ok(Request::Propose { value, run }) => match propose(shared, &value, run) {
+                Ok((run, replaced)) => json!({ "proposed": value, "run": run, "replaced": replaced }),
+                Err(why) => json!({ "refused": why }),
+            },
+            Ok(Request::Decisions) => self.listen(),
+            Ok(Request::Status) => json!({ "status": status(shared) }),
+            Ok(Request::Drain) => {
+                shared.drain();
+                json!({ "draining": true })
+            }
+            Ok(Request::AcceptStep) => accept_step(shared),
+            Err(told) => json!({ "refused": told.to_string() }),
+        }
+    }
+
+    /// Begins to listen to decisions, if there is a place.
+    fn listen(&mut self) -> Json {
+        let place = match self.listening.take() {
+            Some(listening) => Ok(listening._place),
+            None => self.listeners.clone().try_acquire_owned(),
+        };
+        match place {
+            Ok(_place) => {
+                self.listening = Some(Listening { decisions: self.shared.decisions.subscribe(), _place });
+                json!({ "listening": true })
+            }
+            Err(_) => {
+                self.refuse("listeners");
+                json!({ "refused": format!("{MOST_LISTENERS} applications listen to decisions already") })
+            }
+        }
+    }
+}
+
+/// Has the clock be believed, which was set ahead.
+fn accept_step(shared: &Shared) -> Json {
+    match shared.guard.accept() {
+        Some(by_ms) => {
+            tracing::info!(by_ms, "a step of the clock was accepted");
+            json!({ "accepted_ms": by_ms })
+        }
+        None => json!({ "refused": "no step of the clock waits" }),
     }
 }
 
@@ -173,9 +316,17 @@ fn propose(shared: &Shared, value: &Value, run: Option<u32>) -> Result<(u32, Opt
     Ok((run, replaced.and_then(name_of)))
 }
 
+/// What is known of the clock.
+fn clock_told(look: &Look) -> Json {
+    let told = &look.estimate;
+    json!({ "synchronised": told.is_synchronised, "most_error_us": told.most_error_us, "offset_us": told.offset_us,
+            "error_us": look.doubt.error_us, "silent_s": look.doubt.silent.as_secs(), "ahead_ms": look.ahead_ms,
+            "steps": look.steps })
+}
+
 /// What the node says of itself.
 fn status(shared: &Shared) -> Json {
-    let (counts, told) = (&shared.counts, crate::clock::estimate());
+    let (counts, look) = (&shared.counts, shared.guard.look());
     let peers = shared.links.all().map(|link| {
         let number = link.peer.number;
         json!({ "number": number, "connected": counts.connected.with_label_values(&[&number.to_string()]).get() > 0 })
@@ -188,18 +339,18 @@ fn status(shared: &Shared) -> Json {
                   "missed": counts.missed.get(), "failed": counts.failed.get(), "under_way": counts.under_way.get() },
         "sets_left": counts.sets_left.get(),
         "draining": shared.draining.load(Ordering::SeqCst),
-        "waits_for": *shared.waits_for.lock().unwrap_or_else(|told| told.into_inner()),
-        "clock": { "synchronised": told.is_synchronised, "most_error_us": told.most_error_us, "offset_us": told.offset_us,
-                   "steps": counts.steps.get() },
+        "waits_for": shared.waits_for().map(|it| it.to_string()),
+        "clock": clock_told(&look),
         "peers": peers.collect::<Vec<_>>(),
         "spool": { "logs": counts.spool_logs.get(), "bytes": counts.spool_bytes.get(),
-                   "waiting": counts.spool_waiting.get(), "refused": counts.spool_refused.get() },
+                   "waiting": counts.spool_waiting.get(), "refused": counts.spool_refused.get(),
+                   "unstored": counts.spool_unstored.get(), "stuck": shared.spool.passed_by() },
     })
 }
 
 /// Asks a running node, and gives the lines that it answers.
-fn ask(file: &NodeFile, request: &Json) -> io::Result<Lines<BufReader<Client>>> {
-    let mut stream = Client::connect(&file.local.socket)?;
+fn ask(file: &NodeFile, request: &Json) -> io::Result<Lines<BufReader<Asking>>> {
+    let mut stream = Asking::connect(&file.local.socket)?;
     stream.write_all(format!("{request}\n").as_bytes())?;
     Ok(BufReader::new(stream).lines())
 }
@@ -225,4 +376,79 @@ pub fn tell(file: &NodeFile, request: &Json) -> Result<(), End> {
 /// The commands that write what the node says until it ends.
 pub fn tell_all(file: &NodeFile, request: &Json) -> Result<(), End> {
     tell_some(file, request, usize::MAX)
+}
+
+#[cfg(test)]
+mod tests {
+    use std::os::unix::net::UnixListener as Listener;
+
+    use super::*;
+
+    #[test]
+    fn a_socket_takes_no_place_but_that_of_one_that_nobody_serves() {
+        let folder = std::env::temp_dir().join(format!("vamuretu.{}.socket", std::process::id()));
+        std::fs::create_dir_all(&folder).expect("a folder");
+        let (file, link, socket) = (folder.join("file"), folder.join("link"), folder.join("socket"));
+        let status = |path: &Path| make_way(path).map_or_else(|told| told.status, |()| 0);
+        std::fs::write(&file, b"precious").expect("a file");
+        let served = Listener::bind(&socket).expect("a socket");
+        std::os::unix::fs::symlink(&socket, &link).expect("a link");
+        assert_eq!((status(&folder.join("none")), status(&file), status(&link), status(&folder)), (0, 3, 3, 3));
+        assert_eq!((status(&socket), socket.exists()), (1, true));
+        drop(served);
+        assert_eq!((status(&socket), socket.exists()), (0, false));
+        assert_eq!(std::fs::read(&file).expect("a file"), b"precious");
+        std::fs::remove_dir_all(&folder).expect("taken away");
+    }
+
+    const LIMIT: Duration = Duration::from_millis(200);
+
+    /// What comes of bytes that an application writes, and then holds its connection.
+    fn come_of(bytes: &[u8], count: usize) -> Vec<Result<Option<Vec<u8>>, io::ErrorKind>> {
+        let runtime = tokio::runtime::Builder::new_current_thread().enable_all().build().expect("a runtime");
+        runtime.block_on(async {
+            let (mut application, node) = UnixStream::pair().expect("a pair");
+            let mut requests = Requests::new(node.into_split().0, LIMIT);
+            application.write_all(bytes).await.expect("written");
+            let mut come = vec![];
+            for _ in 0..count {
+                let next = timeout(LIMIT * 4, requests.next()).await;
+                come.push(next.unwrap_or_else(|_| Err(io::ErrorKind::WouldBlock.into())).map_err(|told| told.kind()));
+            }
+            come
+        })
+    }
+
+    #[test]
+    fn requests_are_lines() {
+        let silent = Err(io::ErrorKind::WouldBlock);
+        assert_eq!(come_of(b"12\n\n", 3), [Ok(Some(b"12\n".to_vec())), Ok(Some(b"\n".to_vec())), silent]);
+    }
+
+    #[test]
+    fn a_request_that_does_not_end_is_refused() {
+        assert_eq!(come_of(b"12\n34", 2), [Ok(Some(b"12\n".to_vec())), Err(io::ErrorKind::TimedOut)]);
+    }
+
+    #[test]
+    fn a_longer_request_is_refused() {
+        let line = |bytes| [&vec![b'1'; bytes - 1][..], b"\n"].concat();
+        assert_eq!(come_of(&line(MOST_LINE), 1), [Ok(Some(line(MOST_LINE)))]);
+        for bytes in [MOST_LINE + 1, 100_000] {
+            assert_eq!(come_of(&line(bytes), 1), [Err(io::ErrorKind::InvalidData)]);
+        }
+    }
+
+    #[test]
+    fn a_part_of_a_request_stays() {
+        let runtime = tokio::runtime::Builder::new_current_thread().enable_all().build().expect("a runtime");
+        runtime.block_on(async {
+            let (mut application, node) = UnixStream::pair().expect("a pair");
+            let mut requests = Requests::new(node.into_split().0, Duration::from_secs(9));
+            application.write_all(b"1").await.expect("written");
+            assert!(timeout(LIMIT, requests.next()).await.is_err());
+            application.write_all(b"2\n").await.expect("written");
+            assert_eq!(requests.next().await.expect("read"), Some(b"12\n".to_vec()));
+        });
+    }
 }

@@ -1,12 +1,17 @@
 //! A node that goes on: it begins each run by the clock, and keeps its log.
 
-mod counts;
+mod ahead;
+pub mod counts;
 mod inbox;
 pub mod keys;
 pub mod local;
 mod peers;
 mod runs;
+mod shelf;
+pub mod ship;
 pub mod spool;
+mod waits;
+mod worth;
 
 use std::collections::BTreeMap;
 use std::sync::atomic::{AtomicBool, AtomicU64, Ordering};
@@ -15,32 +20,38 @@ use std::thread::{self, JoinHandle};
 use std::time::{Duration, Instant};
 
 use sd_notify::NotifyState;
-use sha2::{Digest, Sha256};
-use tokio::net::TcpListener;
-use tokio::runtime::Runtime;
+use tokio::net::{TcpListener, UnixListener};
+use tokio::runtime::{Builder, Runtime};
 use tokio::signal::unix::{signal, SignalKind};
 use tokio::sync::broadcast;
 use vamuretu::{NextRun, Node, NodeFault};
 
+use self::ahead::Ahead;
 use self::counts::Counts;
 use self::inbox::{Inbox, Inboxes};
 use self::keys::Keeper;
 use self::peers::Links;
 use self::runs::Play;
 use self::spool::Spool;
-use crate::clock::{self, Guard};
+use self::waits::{Passing, Waits};
+use crate::clock::{self, Guard, Look};
 use crate::config::NodeFile;
+use crate::doors::Door;
 use crate::frames::Transport;
 use crate::systems::{Run, Systems};
-use crate::{metrics, End};
+use crate::{descriptors, metrics, End};
 
 /// How long the longest sleep is between two looks at the clock.
 const LOOK: Duration = Duration::from_millis(100);
+/// How long to wait for a run that is being made.
+const MAKING: Duration = Duration::from_millis(5);
 /// A run is opened half a period before it begins, within these bounds, and longer by what clocks may differ.
 const LEAST_LEAD_MS: i64 = 10;
 const MOST_LEAD_MS: i64 = 200;
-/// The most proposals that wait.
-const MOST_PROPOSALS: usize = 1024;
+/// How many runs ahead a proposal may be. So no more wait, and each of these is for a run that comes.
+const MOST_AHEAD: u32 = 1024;
+/// The least threads of the network: one that waits holds up no other.
+const LEAST_THREADS: usize = 2;
 /// The most decisions that wait for an application.
 const MOST_DECISIONS: usize = 256;
 /// The least bytes of a queue to a neighbour.
@@ -57,10 +68,45 @@ struct Proposals {
     orders: BTreeMap<u32, u8>,
 }
 
+impl Proposals {
+    /// Keeps an order for a run, where `next` is the run that begins next. Tells the order that was proposed before.
+    fn put(&mut self, next: u32, run: u32, order: u8) -> Option<u8> {
+        self.orders = self.orders.split_off(&next);
+        self.orders.insert(run, order)
+    }
+
+    /// Takes the order of a run that begins now.
+    fn take(&mut self, run: u32) -> Option<u8> {
+        self.newest = Some(run);
+        self.orders = self.orders.split_off(&run);
+        self.orders.remove(&run)
+    }
+}
+
+/// The run that a proposal is for, of so many runs, where `next` begins next: the one that is asked for, or the node's next own.
+fn run_to_propose_in(asked: Option<u32>, next: u32, runs: u64, is_own: impl Fn(u32) -> bool) -> Result<u32, String> {
+    match asked {
+        Some(run) if run < next => Err(format!("run {run} has begun: the next is run {next}")),
+        Some(run) if u64::from(run) >= runs => {
+            Err(format!("the system has no run {run}: the last is run {}", runs - 1))
+        }
+        Some(run) if run - next >= MOST_AHEAD => Err(format!(
+            "run {run} is too far ahead: a proposal is for one of the next {MOST_AHEAD} runs, and run {next} is next"
+        )),
+        Some(run) if !is_own(run) => Err(format!("this node does not propose in run {run}")),
+        Some(run) => Ok(run),
+        None => {
+            let mut near = (next..=next.saturating_add(16)).take_while(|&run| u64::from(run) < runs);
+            near.find(|&run| is_own(run)).ok_or_else(|| "no run is left in which this node proposes".into())
+        }
+    }
+}
+
 /// What all parts of a node have.
 pub struct Shared {
     pub file: NodeFile,
     systems: Systems,
+    ahead: Ahead,
     pub counts: Counts,
     pub links: Links,
     pub inboxes: Inboxes,
@@ -68,8 +114,8 @@ pub struct Shared {
     pub longest_frame: usize,
     proposals: Mutex<Proposals>,
     pub decisions: broadcast::Sender<Arc<str>>,
-    /// Why no run begins now.
-    pub waits_for: Mutex<Option<String>>,
+    pub guard: Arc<Guard>,
+    waits_for: Mutex<Option<Waits>>,
     pub draining: AtomicBool,
     /// When the scheduler was at work last, in milliseconds since `begun`.
     alive: AtomicU64,
@@ -88,12 +134,14 @@ impl Shared {
             spool: Spool::open(file, counts.clone())?,
             file: file.clone(),
             systems,
+            ahead: Ahead::default(),
             counts,
             links,
             inboxes: Inboxes::default(),
             longest_frame,
             proposals: Mutex::default(),
             decisions: broadcast::channel(MOST_DECISIONS).0,
+            guard: Arc::new(Guard::new(file.clock)),
             waits_for: Mutex::default(),
             draining: AtomicBool::new(false),
             alive: AtomicU64::new(0),
@@ -131,46 +179,43 @@ impl Shared {
         i64::from(self.file.clock.period_ms / 2).clamp(LEAST_LEAD_MS, MOST_LEAD_MS) + self.least_lead_ms()
     }
 
-    /// The next run by the clock that is above a mark, and can still be opened.
-    fn next_run(&self, mark: Option<u32>) -> Option<NextRun> {
-        clock::next_run(mark, clock::now_ms() + self.least_lead_ms(), &self.file.clock)
+    /// The next run at a time that is above a mark, and can still be opened.
+    fn next_run(&self, mark: Option<u32>, now_ms: i64) -> Option<NextRun> {
+        clock::next_run(mark, now_ms.saturating_add(self.least_lead_ms()), &self.file.clock)
     }
 
     /// Keeps a proposal for a run, or for the next in which this node proposes. Tells the run, and the order that was
     /// proposed for it before.
     pub fn propose(&self, run: Option<u32>, order: u8) -> Result<(u32, Option<u8>), String> {
+        let look = self.guard.look();
         let mut proposals = self.proposals();
-        let next = self.next_run(proposals.newest).ok_or("no run is left")?.number;
+        let next = self.next_run(proposals.newest, look.believed_ms.unwrap_or(look.now_ms));
+        let next = next.ok_or("no run is left")?.number;
         let is_own = |run: u32| self.systems.proposer_of(run) == self.file.node.number;
-        let run = match run {
-            Some(run) if run < next => return Err(format!("run {run} has begun: the next is run {next}")),
-            Some(run) if !is_own(run) => return Err(format!("this node does not propose in run {run}")),
-            Some(run) => run,
-            None => (next..=next.saturating_add(16)).find(|&run| is_own(run)).ok_or("this node never proposes")?,
-        };
-        if proposals.orders.len() >= MOST_PROPOSALS && !proposals.orders.contains_key(&run) {
-            return Err("too many proposals wait".into());
-        }
-        Ok((run, proposals.orders.insert(run, order)))
+        let run = run_to_propose_in(run, next, self.systems.runs(), is_own)?;
+        Ok((run, proposals.put(next, run, order)))
     }
 
     /// Takes what was proposed for a run, which begins now.
     fn proposed(&self, run: u32) -> Option<u8> {
-        let mut proposals = self.proposals();
-        proposals.newest = Some(run);
-        let later = proposals.orders.split_off(&run);
-        proposals.orders = later;
-        proposals.orders.remove(&run)
+        self.proposals().take(run)
+    }
+
+    /// Why no run begins now.
+    pub fn waits_for(&self) -> Option<Waits> {
+        *self.waits_for.lock().unwrap_or_else(|told| told.into_inner())
     }
 
     /// Says why no run begins, where that is another reason than before.
-    fn wait_for(&self, why: Option<String>) {
+    fn wait_for(&self, why: Option<Waits>) {
+        self.counts.may_begin.set(why.is_none().into());
         let mut waits_for = self.waits_for.lock().unwrap_or_else(|told| told.into_inner());
         if *waits_for == why {
             return;
         }
         match &why {
-            Some(why) => tracing::error!(alarm = "clock", why = %why, "no run begins"),
+            Some(why @ Waits::Roots) => tracing::error!(alarm = "roots", %why, "no run begins"),
+            Some(why) => tracing::error!(alarm = "clock", %why, "no run begins"),
             None => tracing::info!("runs begin"),
         }
         *waits_for = why;
@@ -181,31 +226,39 @@ impl Shared {
 struct Scheduler {
     shared: Arc<Shared>,
     keeper: Keeper,
-    guard: Guard,
-    /// The run before which none was missed.
-    expected: Option<u32>,
+    passing: Passing,
     /// The run that begins next, whose header is made while there is time.
     prepared: Option<Run>,
     under_way: Vec<JoinHandle<()>>,
 }
 
 impl Scheduler {
-    /// Whether the clock lets a run begin now. Without it the system's clock may be read, and is not believed.
-    fn is_clock_right(&mut self) -> bool {
-        let (wrong, told) = (self.guard.wrong(), clock::estimate());
-        let counts = &self.shared.counts;
+    /// Looks at the clock, and tells of it in the metrics.
+    fn look(&self) -> Look {
+        let look = self.shared.guard.look();
+        let (counts, told) = (&self.shared.counts, &look.estimate);
         counts.synchronised.set(told.is_synchronised.into());
         counts.most_error.set(told.most_error_us as f64 / 1e6);
         counts.offset.set(told.offset_us as f64 / 1e6);
-        counts.steps.set(self.guard.steps as i64);
-        counts.may_begin.set(wrong.is_none().into());
-        // The bound of the error grows at each look, and is not said again.
-        self.shared.wait_for(wrong.map(|wrong| match wrong {
-            clock::Wrong::Unsynchronised => "the clock is not synchronised".into(),
-            clock::Wrong::Uncertain { .. } => "the clock may be wrong by more than bound_ms".into(),
-            clock::Wrong::Stepped { by_ms } => format!("the clock was set by {by_ms} ms"),
-        }));
-        wrong.is_none()
+        counts.clock_error.set(look.doubt.error_us as f64 / 1e6);
+        counts.clock_silent.set(look.doubt.silent.as_secs_f64());
+        counts.clock_ahead.set(look.ahead_ms as f64 / 1e3);
+        counts.steps.set(look.steps as i64);
+        look
+    }
+
+    /// Counts the runs that pass by the clock, and says so.
+    fn count_missed(&mut self, look: &Look) {
+        let shared = &self.shared;
+        if let Some(now_ms) = look.believed_ms {
+            let opens_ms = now_ms.saturating_add(shared.least_lead_ms());
+            let missed = self.passing.pass(opens_ms, self.keeper.mark(), shared.systems.runs(), &shared.file.clock);
+            shared.counts.missed.inc_by(missed.into());
+        }
+        let all = shared.counts.missed.get();
+        if let Some(runs) = self.passing.alarm(all, Instant::now()) {
+            tracing::error!(alarm = "missed", runs, all, "runs did not begin");
+        }
     }
 
     /// Goes on until the node is told to end.
@@ -214,32 +267,53 @@ impl Scheduler {
             self.shared.be_alive();
             self.under_way.retain(|run| !run.is_finished());
             self.shared.counts.under_way.set(self.under_way.len() as i64);
-            let wait = match self.is_clock_right() {
-                true => self.begin_if_due()?,
-                false => LOOK,
+            let look = self.look();
+            self.count_missed(&look);
+            let wait = match look.wrong {
+                None => self.begin_if_due(&look)?,
+                Some(wrong) => {
+                    self.shared.wait_for(Some(Waits::Clock(wrong)));
+                    LOOK
+                }
             };
             thread::sleep(wait.min(LOOK));
         }
         Ok(())
     }
 
-    /// Begins the next run if it is time to open it. Tells how long to wait.
-    fn begin_if_due(&mut self) -> Result<Duration, End> {
-        let next = self.shared.next_run(self.keeper.mark());
-        let next = next.filter(|next| u64::from(next.number) < self.shared.systems.runs());
-        let Some(NextRun { number, begins }) = next else { return Err(End::over("the system has no further run")) };
-        if self.prepared.as_ref().map_or(true, |run| run.number != number) {
-            self.prepared = Some(self.shared.systems.run(number)?);
-            return Ok(Duration::ZERO);
+    /// The next run by a look at the clock. If there is none, the node goes on only where the mark is not the last run: the
+    /// clock may be wrong.
+    fn next_run(&self, look: &Look) -> Result<Option<NextRun>, End> {
+        let (shared, mark) = (&self.shared, self.keeper.mark());
+        let last = u32::try_from(shared.systems.runs() - 1).unwrap_or(u32::MAX);
+        if mark.map_or(false, |mark| mark >= last) {
+            return Err(End::over("the system has no further run"));
         }
-        let wait = begins - self.shared.lead_ms() - clock::now_ms();
+        let next = shared.next_run(mark, look.now_ms).filter(|next| next.number <= last);
+        let why = match next {
+            Some(next) => waits::of_mark(mark, next.begins, look.now_ms, &shared.file.clock),
+            None => Some(Waits::Behind { last }),
+        };
+        let prepared = self.prepared.as_ref().map(|run| run.number);
+        let lacks = next.filter(|it| prepared != Some(it.number) && shared.ahead.has_failed(it.number));
+        shared.wait_for(why.or(lacks.map(|_| Waits::Roots)));
+        Ok(next)
+    }
+
+    /// Begins the next run if it is time to open it. Tells how long to wait.
+    fn begin_if_due(&mut self, look: &Look) -> Result<Duration, End> {
+        let Some(NextRun { number, begins }) = self.next_run(look)? else { return Ok(LOOK) };
+        if self.prepared.as_ref().map_or(true, |run| run.number != number) {
+            self.prepared = self.shared.ahead.take(number);
+            return Ok(if self.prepared.is_some() { Duration::ZERO } else { MAKING });
+        }
+        let wait = begins - self.shared.lead_ms() - look.now_ms;
         if wait > 0 {
             return Ok(Duration::from_millis(wait as u64));
         }
-        let missed = self.expected.map_or(0, |expected| number.saturating_sub(expected));
-        self.shared.counts.missed.inc_by(missed.into());
-        self.expected = number.checked_add(1);
-        let begins = Instant::now() + Duration::from_millis((begins - clock::now_ms()).max(0) as u64);
+        self.passing.begin(number);
+        self.shared.guard.relied_on(look);
+        let begins = look.at + Duration::from_millis((begins - look.now_ms).max(0) as u64);
         match self.prepared.take() {
             Some(run) => self.begin(run, begins).map(|()| Duration::ZERO),
             None => Ok(Duration::ZERO),
@@ -287,12 +361,17 @@ fn play(shared: &Shared, run: &Run, node: Node, inbox: &Inbox, begins: Instant) 
     let mut play = Play::new(shared, run, node, inbox, begins);
     match play.all() {
         Ok(outcome) => {
-            let is_stored = shared.spool.keep(run.number, &outcome.log);
+            let keeping = shared.spool.keep(run.number, &outcome.log);
+            let is_stored = play.linger_for(|most| keeping.wait(most));
             shared.counts.decision.observe(begins.elapsed().as_secs_f64());
             shared.counts.decided.inc();
-            shared.counts.late.inc_by(outcome.late.is_some().into());
-            let (lacked, late) = (outcome.lacked.len(), outcome.late);
-            tracing::info!(run = run.number, order = outcome.order, lacked, late = ?late, stored = is_stored, "decided");
+            let (late, doubt) = (outcome.known.late(run.traitors), outcome.known.doubt(run.traitors));
+            shared.counts.late.inc_by(late.is_some().into());
+            shared.counts.worthless.inc_by(doubt.is_some().into());
+            let (lacked, unsent, holds) = (outcome.known.lacked.len(), outcome.known.unsent.len(), doubt.is_none());
+            tracing::info!(
+                run = run.number, order = outcome.order, holds, lacked, unsent, late = ?late, stored = is_stored, "decided"
+            );
             let _ = shared.decisions.send(local::decision_line(&shared.file, run, &outcome, is_stored));
             play.linger();
         }
@@ -335,22 +414,54 @@ fn listen(runtime: &Runtime, address: std::net::SocketAddr) -> Result<TcpListene
     runtime.block_on(TcpListener::bind(address)).map_err(|told| End::unusable(address, &told))
 }
 
-/// Starts all that talks.
+/// The threads of the network: as many as there are processors, and at least two.
+fn runtime() -> Result<Runtime, End> {
+    let threads = thread::available_parallelism().map_or(LEAST_THREADS, |count| count.get().max(LEAST_THREADS));
+    let made = Builder::new_multi_thread().worker_threads(threads).enable_all().build();
+    made.map_err(|told| End::unusable("a runtime", &told))
+}
+
+/// What a node listens at.
+struct Listeners {
+    peers: TcpListener,
+    metrics: Option<TcpListener>,
+    local: UnixListener,
+}
+
+impl Listeners {
+    /// Listens, if all connections that there may be at these doors leave the reserve of descriptors.
+    fn open(runtime: &Runtime, file: &NodeFile, door: &Door) -> Result<Listeners, End> {
+        let own = file.neighbours().count() + file.watchers.len();
+        let of_metrics = file.metrics.as_ref().map_or(0, |_| metrics::DESCRIPTORS);
+        descriptors::keep_reserve(door.descriptors() + own + of_metrics + local::DESCRIPTORS)?;
+        let _inside = runtime.enter();
+        Ok(Listeners {
+            peers: listen(runtime, file.node.listen)?,
+            metrics: file.metrics.as_ref().map(|of| listen(runtime, of.address)).transpose()?,
+            local: local::listen(&file.local.socket)?,
+        })
+    }
+}
+
+/// Starts all that talks, once all that can't be had was refused.
 fn start(runtime: &Runtime, shared: &Arc<Shared>) -> Result<(), End> {
     let file = &shared.file;
-    let transport = Transport::new(file.tls.as_ref())?;
+    let transport = Transport::new(file.key.as_ref())?;
+    file.check_pin(transport.pin())?;
+    let door = peers::door(file, &transport)?;
+    let listeners = Listeners::open(runtime, file, &door)?;
     let _inside = runtime.enter();
-    tokio::spawn(peers::take(shared.clone(), transport.clone(), listen(runtime, file.node.listen)?));
+    tokio::spawn(peers::take(shared.clone(), door, listeners.peers));
     for link in shared.links.all().filter(|link| link.peer.number < file.node.number) {
         tokio::spawn(peers::keep_connected(shared.clone(), transport.clone(), link.clone()));
     }
     for (place, watcher) in file.watchers.iter().enumerate() {
-        tokio::spawn(spool::ship(shared.clone(), transport.clone(), place, watcher.clone()));
+        tokio::spawn(ship::ship(shared.clone(), transport.clone(), place, watcher.clone()));
     }
-    if let Some(of) = &file.metrics {
-        tokio::spawn(metrics::serve(listen(runtime, of.address)?, shared.counts.registry.clone()));
+    if let Some(listener) = listeners.metrics {
+        tokio::spawn(metrics::serve(listener, shared.counts.registry.clone()));
     }
-    tokio::spawn(local::serve(shared.clone(), local::listen(&file.local.socket)?));
+    tokio::spawn(local::serve(shared.clone(), listeners.local));
     tokio::spawn(keep_alive(shared.clone()));
     tokio::spawn(await_end(shared.clone()));
     Ok(())
@@ -358,11 +469,7 @@ fn start(runtime: &Runtime, shared: &Arc<Shared>) -> Result<(), End> {
 
 /// Compares the configuration with the system, and with the first run of it.
 fn check(file: &NodeFile, systems: &Systems, first: &Run) -> Result<(), End> {
-    let context: [u8; 32] = Sha256::digest(file.context_text()).into();
-    if context != systems.context() {
-        let told = hex::encode(context);
-        return Err(End::fault(&file.system.file, format!("its context is not that of [clock] and [orders], {told}")));
-    }
+    systems.check_context(&file.context_text())?;
     let own = first.general_of(file.node.number).ok_or_else(|| End::failed("this node is none of the system's"))?;
     let mut neighbours: Vec<u32> = first.header.neighbours(own).map(|general| first.nodes[general as usize]).collect();
     let mut peers: Vec<u32> = file.neighbours().map(|peer| peer.number).collect();
@@ -381,13 +488,13 @@ pub fn run(file: &NodeFile) -> Result<(), End> {
     check(file, &systems, &first)?;
     let keeper = Keeper::open(file)?;
     let shared = Arc::new(Shared::new(file, systems, &first)?);
-    let runtime = Runtime::new().map_err(|told| End::unusable("a runtime", &told))?;
+    let runtime = runtime()?;
+    ahead::start(&shared)?;
     start(&runtime, &shared)?;
     tracing::info!(node = file.node.number, system = %hex::encode(file.system.id), mark = ?keeper.mark(), "started");
     let _ = sd_notify::notify(false, &[NotifyState::Ready]);
-    let guard = Guard::new(file.clock);
-    let (expected, prepared, under_way) = (None, None, vec![]);
-    let mut scheduler = Scheduler { shared: shared.clone(), keeper, guard, expected, prepared, under_way };
+    let (passing, prepared, under_way) = (Passing::default(), None, vec![]);
+    let mut scheduler = Scheduler { shared: shared.clone(), keeper, passing, prepared, under_way };
     let ended = scheduler.go_on();
     let _ = sd_notify::notify(false, &[NotifyState::Stopping]);
     // Runs under way may take longer than a sign of life may be away.
@@ -403,4 +510,37 @@ pub fn run(file: &NodeFile) -> Result<(), End> {
     let _ = std::fs::remove_file(&file.local.socket);
     tracing::info!("ended");
     ended
+}
+
+#[cfg(test)]
+mod tests {
+    use super::*;
+
+    #[test]
+    fn proposals_are_for_runs_that_come() {
+        let run_in = |asked, next| run_to_propose_in(asked, next, 5000, |run| run % 4 == 2);
+        assert_eq!([run_in(None, 7), run_in(Some(10), 7), run_in(Some(10), 10)], [Ok(10), Ok(10), Ok(10)]);
+        assert_eq!((run_in(Some(1030), 7), run_in(Some(4998), 4000)), (Ok(1030), Ok(4998)));
+        for (asked, next) in [(6, 7), (9, 7), (1034, 7), (4_000_000_002, 7), (5002, 4990), (u32::MAX, 0)] {
+            assert!(run_in(Some(asked), next).is_err(), "{asked}");
+        }
+        assert!(run_in(None, 4999).is_err(), "no own run is left");
+    }
+
+    #[test]
+    fn proposals_of_one_application_leave_room_for_others() {
+        let mut proposals = Proposals::default();
+        for next in 0..5000 {
+            for run in [next, next + MOST_AHEAD - 1] {
+                assert_eq!(run_to_propose_in(Some(run), next, 10_000, |_| true), Ok(run));
+                proposals.put(next, run, 1);
+            }
+            assert!(proposals.orders.len() <= MOST_AHEAD as usize);
+        }
+        assert_eq!(
+            (proposals.take(5000), proposals.take(5001), proposals.put(5002, 5002, 2)),
+            (Some(1), Some(1), Some(1))
+        );
+        assert_eq!((proposals.take(5002), proposals.take(5001)), (Some(2), None));
+    }
 }

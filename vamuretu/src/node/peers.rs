@@ -3,17 +3,18 @@
 use std::collections::BTreeMap;
 use std::io;
 use std::sync::atomic::{AtomicU64, Ordering};
-use std::sync::{Arc, Mutex};
-use std::time::Duration;
+use std::sync::Arc;
+use std::time::{Duration, Instant};
 
 use tokio::net::TcpListener;
-use tokio::sync::oneshot;
 use tokio::time::timeout;
 
 use super::inbox::Refused;
 use super::Shared;
-use crate::config::Peer;
-use crate::frames::{self, Accepted, Backoff, Hello, Queue, Stream, Transport};
+use crate::config::{NodeFile, Peer};
+use crate::doors::{Door, Known, Seldom, Shown};
+use crate::frames::{self, Backoff, Hello, Outgoing, Queue, Stream, Transport};
+use crate::End;
 
 /// A connection on which a frame is not taken for so long is closed.
 const MOST_WRITING: Duration = Duration::from_secs(2);
@@ -21,14 +22,26 @@ const MOST_WRITING: Duration = Duration::from_secs(2);
 const MOST_SILENCE: Duration = Duration::from_secs(10);
 const SILENT_PERIODS: u32 = 3;
 
+/// A neighbour has one connection, and the newest is it.
+const PLACES: usize = 1;
+/// How often the lines of the connections with one neighbour are said.
+const SAID_EACH: Duration = Duration::from_secs(1);
+
 /// What is there of a neighbour.
 pub struct Link {
     pub peer: Peer,
     queue: Queue,
-    /// How often it was connected. A run that sees another number sends its frames again.
+    /// How often a connection began or ended. A run that sees another number sends its frames again.
     epoch: AtomicU64,
-    /// What ends the connection that is served, when it is dropped.
-    current: Mutex<Option<oneshot::Sender<()>>>,
+    said: Seldom,
+}
+
+impl Link {
+    /// Notes that a connection has begun or ended.
+    pub fn is_changed(&self) {
+        self.queue.clear();
+        self.epoch.fetch_add(1, Ordering::SeqCst);
+    }
 }
 
 /// The neighbours.
@@ -46,14 +59,14 @@ impl Links {
     ) -> Links {
         let link = |peer: &Peer| {
             let queue = Queue::new(most_bytes);
-            let made = Link { peer: peer.clone(), queue, epoch: AtomicU64::new(0), current: Mutex::default() };
+            let made = Link { peer: peer.clone(), queue, epoch: AtomicU64::new(0), said: Seldom::new(SAID_EACH) };
             (peer.number, Arc::new(made))
         };
         Links { links: peers.map(link).collect(), dropped }
     }
 
     /// Puts a frame into the queue of a node. Nobody waits.
-    pub fn send(&self, node: u32, frame: Arc<[u8]>) {
+    pub fn send(&self, node: u32, frame: Arc<Outgoing>) {
         let dropped = self.links.get(&node).map_or(0, |link| link.queue.push(frame));
         if dropped > 0 {
             self.dropped.with_label_values(&[&node.to_string()]).inc_by(dropped as u64);
@@ -69,38 +82,28 @@ impl Links {
     }
 }
 
-/// Takes connections of nodes with greater numbers, for ever.
-pub async fn take(shared: Arc<Shared>, transport: Transport, listener: TcpListener) {
-    loop {
-        match listener.accept().await {
-            Ok((stream, from)) => {
-                let (shared, transport) = (shared.clone(), transport.clone());
-                tokio::spawn(async move {
-                    let greeted = async { greet_back(&shared, transport.accept(stream, from).await?).await };
-                    if let Err(told) = greeted.await {
-                        tracing::warn!(%from, %told, "a connection was refused");
-                    }
-                });
-            }
-            Err(told) => {
-                tracing::warn!(%told, "no connection was taken");
-                tokio::time::sleep(Duration::from_millis(100)).await;
-            }
-        }
-    }
+/// The door for neighbours of greater numbers.
+pub fn door(file: &NodeFile, transport: &Transport) -> Result<Arc<Door>, End> {
+    let greater = file.neighbours().filter(|peer| peer.number > file.node.number);
+    let known = greater.map(|peer| {
+        let address = Some(peer.address.ip().to_canonical());
+        Known { node: peer.number, address, keys: peer.keys.clone() }
+    });
+    let most_unanswered = frames::most_unanswered(file.clock.round_ms);
+    Door::new(file.system.id, known.collect(), transport, most_unanswered, PLACES)
 }
 
-/// Learns who has connected, says who is here, and serves the connection.
-async fn greet_back(shared: &Arc<Shared>, mut accepted: Accepted) -> io::Result<()> {
-    let greeting = timeout(frames::MOST_GREETING, frames::read_hello(&mut accepted.stream, &shared.file.system.id));
-    let hello = greeting.await.map_err(|_| io::Error::from(io::ErrorKind::TimedOut))??;
-    let link = shared.links.links.get(&u32::from(hello.node)).filter(|link| link.peer.number > shared.file.node.number);
-    let is_right = |link: &&Arc<Link>| accepted.may_be(&link.peer.name(), Some(link.peer.address));
-    let Some(link) = link.filter(is_right) else {
-        return Err(io::Error::new(io::ErrorKind::PermissionDenied, format!("it is not node {}", hello.node)));
-    };
-    frames::write(&mut accepted.stream, frames::HELLO, &[&own_hello(shared).to_bytes()]).await?;
-    begin(shared, link, accepted.stream);
+/// Takes connections of neighbours of greater numbers, for ever.
+pub async fn take(shared: Arc<Shared>, door: Arc<Door>, listener: TcpListener) {
+    let serve = move |shown| greet_back(shared.clone(), shown);
+    door.open(listener, serve).await;
+}
+
+/// Says who is here, and serves the connection.
+async fn greet_back(shared: Arc<Shared>, mut shown: Shown) -> io::Result<()> {
+    let Some(link) = shared.links.links.get(&shown.node) else { return Ok(()) };
+    frames::write(&mut shown.stream, frames::HELLO, &[&own_hello(&shared).to_bytes()]).await?;
+    serve(&shared, link, shown.stream).await;
     Ok(())
 }
 
@@ -114,10 +117,15 @@ pub async fn keep_connected(shared: Arc<Shared>, transport: Transport, link: Arc
     loop {
         match greet(&shared, &transport, &link).await {
             Ok(stream) => {
-                backoff.is_connected();
-                let _ = begin(&shared, &link, stream).await;
+                let since = Instant::now();
+                serve(&shared, &link, stream).await;
+                backoff.stood(since.elapsed());
             }
-            Err(told) => tracing::debug!(peer = link.peer.number, %told, "not connected"),
+            Err(told) => {
+                if let Some(unsaid) = backoff.may_say() {
+                    tracing::warn!(peer = link.peer.number, %told, unsaid, "not connected");
+                }
+            }
         }
         backoff.wait().await;
     }
@@ -125,24 +133,15 @@ pub async fn keep_connected(shared: Arc<Shared>, transport: Transport, link: Arc
 
 /// Connects, says who is here, and learns who is there.
 async fn greet(shared: &Shared, transport: &Transport, link: &Link) -> io::Result<Stream> {
-    let mut stream = transport.connect(link.peer.address, &link.peer.name()).await?;
+    let most_unanswered = frames::most_unanswered(shared.file.clock.round_ms);
+    let mut stream = transport.connect(link.peer.address, &link.peer.keys, most_unanswered).await?;
     frames::write(&mut stream, frames::HELLO, &[&own_hello(shared).to_bytes()]).await?;
-    let greeting = timeout(frames::MOST_GREETING, frames::read_hello(&mut stream, &shared.file.system.id));
-    let hello = greeting.await.map_err(|_| io::Error::from(io::ErrorKind::TimedOut))??;
+    let hello = frames::read_hello(&mut stream, &shared.file.system.id);
+    let hello = frames::within(frames::MOST_GREETING, "it does not say who it is", hello).await?;
     match u32::from(hello.node) == link.peer.number {
         true => Ok(stream),
-        false => Err(io::Error::new(io::ErrorKind::InvalidData, format!("node {} is there", hello.node))),
+        false => Err(io::Error::new(io::ErrorKind::InvalidData, format!("it says that it is node {}", hello.node))),
     }
-}
-
-/// Begins to serve a connection, in the place of the one that was there.
-fn begin(shared: &Arc<Shared>, link: &Arc<Link>, stream: Stream) -> tokio::task::JoinHandle<()> {
-    let (keep, replaced) = oneshot::channel();
-    *link.current.lock().unwrap_or_else(|told| told.into_inner()) = Some(keep);
-    let serving = serve(shared.clone(), link.clone(), stream);
-    tokio::spawn(async move {
-        tokio::select! { () = serving => {}, _ = replaced => {} }
-    })
 }
 
 /// The gauge of a connection, which is 0 again when the connection is dropped.
@@ -155,13 +154,15 @@ impl Drop for Gauge {
 }
 
 /// Carries frames both ways until the connection ends.
-async fn serve(shared: Arc<Shared>, link: Arc<Link>, stream: Stream) {
+async fn serve(shared: &Shared, link: &Link, stream: Stream) {
     let number = link.peer.number;
     let gauge = Gauge(shared.counts.connected.with_label_values(&[&number.to_string()]));
     gauge.0.inc();
-    link.queue.clear();
-    link.epoch.fetch_add(1, Ordering::SeqCst);
-    tracing::info!(peer = number, "connected");
+    link.is_changed();
+    let unsaid = link.said.may_say();
+    if let Some(unsaid) = unsaid {
+        tracing::info!(peer = number, unsaid, "connected");
+    }
     let (mut from, mut to) = tokio::io::split(stream);
     let period = Duration::from_millis(shared.file.clock.period_ms.into());
     let silence = MOST_SILENCE.max(period * SILENT_PERIODS);
@@ -169,7 +170,7 @@ async fn serve(shared: Arc<Shared>, link: Arc<Link>, stream: Stream) {
         loop {
             let message = timeout(silence, frames::read(&mut from, shared.longest_frame)).await;
             match message.map_err(|_| io::Error::new(io::ErrorKind::TimedOut, "nothing comes"))?? {
-                Some(message) if message.kind == frames::FRAME => take_frame(&shared, number, message.body),
+                Some(message) if message.kind == frames::FRAME => take_frame(shared, number, message.body),
                 Some(_) => return Err(io::Error::new(io::ErrorKind::InvalidData, "a message of another kind")),
                 None => return Ok(()),
             }
@@ -178,12 +179,17 @@ async fn serve(shared: Arc<Shared>, link: Arc<Link>, stream: Stream) {
     let writing = async {
         loop {
             let frame = link.queue.pop().await;
-            let written = timeout(MOST_WRITING, frames::write(&mut to, frames::FRAME, &[&frame])).await;
+            let written = timeout(MOST_WRITING, frames::write(&mut to, frames::FRAME, &[&frame.bytes])).await;
             written.map_err(|_| io::Error::new(io::ErrorKind::TimedOut, "it does not read"))??;
+            frame.is_handed_over();
         }
     };
     let ended: io::Result<()> = tokio::select! { ended = reading => ended, ended = writing => ended };
-    tracing::info!(peer = number, told = %ended.map_or_else(|told| told.to_string(), |()| "it ended".into()), "disconnected");
+    link.is_changed();
+    let told = ended.map_or_else(|told| told.to_string(), |()| "it ended".into());
+    if unsaid.is_some() {
+        tracing::info!(peer = number, told, "disconnected");
+    }
 }
 
 /// Hands a frame to its run.
@@ -192,5 +198,6 @@ fn take_frame(shared: &Shared, from: u32, frame: Vec<u8>) {
         Ok(()) => {}
         Err(Refused::Fault(fault)) => shared.refuse(fault),
         Err(Refused::Late) => shared.refuse(vamuretu::NodeFault::F2),
+        Err(Refused::Barred) => shared.counts.barred.with_label_values(&[&from.to_string()]).inc(),
     }
 }

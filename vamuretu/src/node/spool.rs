@@ -1,70 +1,148 @@
 //! The logs of this node's runs, on the disk until a watcher has acknowledged them, and longer.
 //!
 //! Two folders: `waiting` has the logs that not each watcher has acknowledged, and `acknowledged` the others. A file is a log
-//! that zstd has compressed, under the number of its run.
+//! that zstd has compressed, under the number of its run. The file `system` says whose logs these are. One thread has the
+//! files (`shelf`), and the network never waits for it. Which logs are there, and what has come of handing them over, is known
+//! in memory.
 
-use std::collections::{BTreeMap, BTreeSet};
+use std::collections::{BTreeMap, VecDeque};
 use std::fs;
 use std::io;
+use std::net::SocketAddr;
 use std::path::{Path, PathBuf};
+use std::sync::mpsc::{channel, sync_channel, Receiver, RecvTimeoutError, Sender, SyncSender};
 use std::sync::{Arc, Mutex, MutexGuard};
-use std::time::{Duration, SystemTime};
+use std::thread;
+use std::time::{Duration, Instant};
 
-use tokio::sync::Notify;
-use tokio::time::timeout;
+use serde_json::{json, Value as Json};
+use tokio::sync::{oneshot, Notify};
 
 use super::counts::Counts;
-use super::Shared;
-use crate::config::{NodeFile, Watcher};
-use crate::frames::{self, Backoff, Hello, Stream, Transport};
+use super::shelf::{Job, Shelf};
+use crate::config::NodeFile;
+use crate::disk::{self, Lock};
 use crate::watch::judge::pack;
-use crate::{disk, End};
+use crate::End;
 
-/// How many logs go out before an answer to the first has come, and how long one may take.
-const MOST_UNANSWERED: usize = 16;
-const MOST_ANSWER: Duration = Duration::from_secs(30);
-const DAY: Duration = Duration::from_secs(86_400);
+/// How often a log that can't be handed over is tried before it is passed by, how long after the last time, and how often then.
+const MOST_TRIES: u32 = 3;
+const BETWEEN_TRIES: Duration = Duration::from_millis(if cfg!(test) { 30 } else { 3000 });
+const PASSED_BY: Duration = Duration::from_secs(3600);
+/// How often the time until the next try is doubled at most for a log behind which connections end.
+const MOST_DOUBLED: u32 = 7;
+/// How long a run waits for the disk.
+const MOST_PUT: Duration = Duration::from_secs(10);
+/// The most bytes of the logs that the disk has not taken yet.
+const MOST_UNSTORED: usize = 16 << 20;
+/// How many of the logs that are passed by the status names.
+const MOST_TOLD: usize = 64;
+const DAY_MS: u64 = 86_400_000;
 const ENDING: &str = ".log.zst";
-/// The folders.
+/// The folders, and the file that says whose they are.
 const WAITING: &str = "waiting";
 const ACKNOWLEDGED: &str = "acknowledged";
+const OWNER: &str = "system";
 
-/// A log that is kept.
-struct Kept {
+/// What has come of handing a log to a watcher that has not acknowledged it.
+#[derive(Debug, Default)]
+struct Tries {
+    /// How often it could not be handed over, and why it could not at last.
+    failed: u32,
+    why: String,
+    /// How often a connection ended while the watcher owed the answer for this log.
+    ended: u32,
+    /// Before this it is not tried again.
+    again: Option<Instant>,
+}
+
+impl Tries {
+    fn is_due(&self, now: Instant) -> bool {
+        self.again.map_or(true, |again| again <= now)
+    }
+
+    fn is_passed_by(&self) -> bool {
+        self.failed >= MOST_TRIES
+    }
+
+    /// Notes that the log could not be handed over. Tells whether that was the last try.
+    fn fail(&mut self, why: &str, now: Instant) -> bool {
+        self.failed = self.failed.saturating_add(1);
+        self.why = why.into();
+        self.again = Some(now + if self.is_passed_by() { PASSED_BY } else { BETWEEN_TRIES });
+        self.failed == MOST_TRIES
+    }
+
+    /// Notes that the connection ended. Others go first for a while.
+    fn set_back(&mut self, now: Instant) {
+        self.again = Some(now + BETWEEN_TRIES * (1 << self.ended));
+        self.ended = (self.ended + 1).min(MOST_DOUBLED);
+    }
+}
+
+/// A log of the first folder.
+struct Waiting {
     bytes: u64,
-    since: SystemTime,
+    /// The watchers that have not acknowledged it, by their places.
+    wanted: BTreeMap<usize, Tries>,
+}
+
+/// A log that the disk has not taken yet, and who waits for that.
+struct Unstored {
+    bytes: Arc<[u8]>,
+    waits: Option<SyncSender<io::Result<()>>>,
 }
 
 /// What is kept.
 #[derive(Default)]
 struct All {
-    /// The logs of the first folder, with the watchers that have not acknowledged them, by their places.
-    waiting: BTreeMap<u32, (Kept, BTreeSet<usize>)>,
-    acknowledged: BTreeMap<u32, Kept>,
+    waiting: BTreeMap<u32, Waiting>,
+    /// The bytes of the logs of the second folder.
+    acknowledged: BTreeMap<u32, u64>,
+    unstored: BTreeMap<u32, Unstored>,
+    /// The bytes of both folders.
     bytes: u64,
+    /// The newest run whose log was to be kept since the start. It began by a clock that was right.
+    newest: Option<u32>,
 }
 
 impl All {
-    fn put(&mut self, run: u32, kept: Kept, wanted: BTreeSet<usize>) {
-        self.bytes += kept.bytes;
-        if wanted.is_empty() {
-            self.acknowledged.insert(run, kept);
+    fn put(&mut self, run: u32, bytes: u64, watchers: usize) {
+        self.bytes += bytes;
+        if watchers == 0 {
+            self.acknowledged.insert(run, bytes);
         } else {
-            self.waiting.insert(run, (kept, wanted));
+            let wanted = (0..watchers).map(|place| (place, Tries::default())).collect();
+            self.waiting.insert(run, Waiting { bytes, wanted });
         }
+    }
+
+    /// Holds a log in memory. Tells the runs whose logs have to go for it, the oldest.
+    fn hold(&mut self, run: u32, unstored: Unstored) -> Vec<u32> {
+        self.newest = self.newest.max(Some(run));
+        self.unstored.insert(run, unstored);
+        let mut held: usize = self.unstored.values().map(|log| log.bytes.len()).sum();
+        let mut lost = vec![];
+        while held > MOST_UNSTORED && self.unstored.len() > 1 {
+            if let Some((run, log)) = self.unstored.pop_first() {
+                held -= log.bytes.len();
+                lost.push(run);
+            }
+        }
+        lost
     }
 }
 
-pub struct Spool {
+/// The logs, as all parts of a node know them.
+pub struct Logs {
     folder: PathBuf,
-    watchers: usize,
-    keeps: Duration,
+    watchers: Vec<SocketAddr>,
+    /// How many runs an acknowledged log is kept.
+    keeps: u64,
     most_bytes: u64,
     all: Mutex<All>,
-    /// Who has it may change files.
-    turn: Mutex<()>,
     come: Notify,
-    counts: Counts,
+    pub counts: Counts,
 }
 
 /// The file of a log, in the folder of the spool.
@@ -72,26 +150,46 @@ fn path_of(folder: &Path, run: u32, is_waiting: bool) -> PathBuf {
     folder.join(if is_waiting { WAITING } else { ACKNOWLEDGED }).join(format!("{run:010}{ENDING}"))
 }
 
-impl Spool {
-    /// Reads what is there, and makes the folders if they are not there.
-    pub fn open(file: &NodeFile, counts: Counts) -> Result<Spool, End> {
-        let (folder, watchers) = (file.node.spool.clone(), file.watchers.len());
-        let keeps = DAY * file.spool.days;
-        let most_bytes = file.spool.most_bytes;
-        let (all, turn, come) = (Mutex::default(), Mutex::default(), Notify::new());
-        let spool = Spool { folder, watchers, keeps, most_bytes, all, turn, come, counts };
-        for (name, wanted) in [(WAITING, (0..watchers).collect()), (ACKNOWLEDGED, BTreeSet::new())] {
-            let path = spool.folder.join(name);
+impl Logs {
+    /// The logs of a folder.
+    fn new(folder: &Path, watchers: Vec<SocketAddr>, keeps: u64, most_bytes: u64, counts: Counts) -> Result<Logs, End> {
+        let (all, come) = (Mutex::default(), Notify::new());
+        let logs = Logs { folder: folder.into(), watchers, keeps, most_bytes, all, come, counts };
+        for (name, watchers) in [(WAITING, logs.watchers.len()), (ACKNOWLEDGED, 0)] {
+            let path = folder.join(name);
             fs::create_dir_all(&path).map_err(End::file(&path))?;
-            spool.read(&path, &wanted).map_err(End::file(&path))?;
+            logs.read(&path, watchers).map_err(End::file(&path))?;
         }
-        disk::sync_folder(&spool.folder).map_err(End::file(&spool.folder))?;
-        spool.tell();
-        Ok(spool)
+        disk::sync_folder(folder).map_err(End::file(folder))?;
+        logs.tell();
+        Ok(logs)
+    }
+
+    fn all(&self) -> MutexGuard<'_, All> {
+        self.all.lock().unwrap_or_else(|told| told.into_inner())
+    }
+
+    pub fn path(&self, run: u32, is_waiting: bool) -> PathBuf {
+        path_of(&self.folder, run, is_waiting)
+    }
+
+    /// Where a log goes that nobody has acknowledged.
+    pub fn fresh_path(&self, run: u32) -> PathBuf {
+        self.path(run, !self.watchers.is_empty())
+    }
+
+    pub fn tell(&self) {
+        let all = self.all();
+        let is_passed_by = |log: &&Waiting| log.wanted.values().any(Tries::is_passed_by);
+        self.counts.spool_bytes.set(all.bytes as i64);
+        self.counts.spool_logs.set((all.waiting.len() + all.acknowledged.len()) as i64);
+        self.counts.spool_waiting.set(all.waiting.len() as i64);
+        self.counts.spool_stuck.set(all.waiting.values().filter(is_passed_by).count() as i64);
+        self.counts.spool_unstored.set(all.unstored.len() as i64);
     }
 
     /// Notes the logs of a folder, and takes away what is not whole.
-    fn read(&self, folder: &Path, wanted: &BTreeSet<usize>) -> io::Result<()> {
+    fn read(&self, folder: &Path, watchers: usize) -> io::Result<()> {
         let mut all = self.all();
         for entry in fs::read_dir(folder)? {
             let entry = entry?;
@@ -99,117 +197,271 @@ impl Spool {
             if name.ends_with(disk::NEW) {
                 fs::remove_file(entry.path())?;
             } else if let Some(run) = name.strip_suffix(ENDING).and_then(|run| run.parse().ok()) {
-                let told = entry.metadata()?;
-                all.put(run, Kept { bytes: told.len(), since: told.modified()? }, wanted.clone());
+                all.put(run, entry.metadata()?.len(), watchers);
             }
         }
         Ok(())
     }
 
-    fn all(&self) -> MutexGuard<'_, All> {
-        self.all.lock().unwrap_or_else(|told| told.into_inner())
+    /// The bytes of a log that the disk has not taken yet.
+    pub fn unstored(&self, run: u32) -> Option<Arc<[u8]>> {
+        self.all().unstored.get(&run).map(|log| log.bytes.clone())
     }
 
-    fn path(&self, run: u32, is_waiting: bool) -> PathBuf {
-        path_of(&self.folder, run, is_waiting)
+    /// How many bytes the log of a run has that waits.
+    pub fn bytes_of(&self, run: u32) -> u64 {
+        self.all().waiting.get(&run).map_or(0, |log| log.bytes)
     }
 
-    fn tell(&self) {
-        let all = self.all();
-        self.counts.spool_bytes.set(all.bytes as i64);
-        self.counts.spool_logs.set((all.waiting.len() + all.acknowledged.len()) as i64);
-        self.counts.spool_waiting.set(all.waiting.len() as i64);
+    /// The runs whose logs the disk has not taken yet.
+    pub fn all_unstored(&self) -> Vec<u32> {
+        self.all().unstored.keys().copied().collect()
     }
 
-    /// Keeps the log of a run. It is on the disk when this returns `true`. Where there is no room, the oldest logs go that
-    /// each watcher has acknowledged; if that is not enough, the log is not kept.
-    pub fn keep(&self, run: u32, log: &[u8]) -> bool {
-        let kept = pack(log).and_then(|bytes| self.put(run, &bytes));
-        if let Err(told) = &kept {
-            self.counts.spool_refused.inc();
-            tracing::error!(alarm = "spool", run, %told, "the log was not kept");
-        }
-        self.tell();
-        self.come.notify_waiters();
-        kept.is_ok()
-    }
-
-    fn turn(&self) -> MutexGuard<'_, ()> {
-        self.turn.lock().unwrap_or_else(|told| told.into_inner())
-    }
-
-    fn put(&self, run: u32, bytes: &[u8]) -> io::Result<()> {
-        let _turn = self.turn();
-        let length = bytes.len() as u64;
-        if !self.make_room(length)? {
-            return Err(io::Error::other("the spool is full of logs that nobody has acknowledged"));
-        }
-        disk::put(&self.path(run, self.watchers > 0), 0o644, bytes)?;
-        self.all().put(run, Kept { bytes: length, since: SystemTime::now() }, (0..self.watchers).collect());
-        Ok(())
-    }
-
-    /// Takes logs away, the oldest acknowledged first: those whose time is over, and others as far as room is wanted. Tells
-    /// whether there is room.
-    fn make_room(&self, wanted: u64) -> io::Result<bool> {
-        let now = SystemTime::now();
-        let is_old = |log: &Kept| now.duration_since(log.since).map_or(false, |age| age > self.keeps);
-        loop {
-            let all = self.all();
-            let is_full = all.bytes + wanted > self.most_bytes;
-            let oldest = all.acknowledged.first_key_value().map(|(&run, log)| (run, is_old(log)));
-            drop(all);
-            match oldest {
-                Some((run, is_over)) if is_over || is_full => self.take_away(run, is_over)?,
-                _ => return Ok(!is_full),
-            }
-        }
-    }
-
-    fn take_away(&self, run: u32, is_over: bool) -> io::Result<()> {
-        match fs::remove_file(self.path(run, false)) {
-            Err(told) if told.kind() != io::ErrorKind::NotFound => return Err(told),
-            _ => {}
-        }
+    /// Notes what came of putting a log to the disk, and tells who waits for that. Tells whether somebody does.
+    pub fn is_put(&self, run: u32, bytes: usize, put: io::Result<()>) -> bool {
+        let is_stored = put.is_ok();
         let mut all = self.all();
-        let bytes = all.acknowledged.remove(&run).map_or(0, |log| log.bytes);
-        all.bytes -= bytes;
-        if !is_over {
-            self.counts.spool_given_up.inc();
-            tracing::warn!(alarm = "spool", run, "an acknowledged log went before its time: the spool is full");
+        let waits = all.unstored.get_mut(&run).and_then(|log| log.waits.take());
+        if is_stored {
+            all.unstored.remove(&run);
+            all.put(run, bytes as u64, self.watchers.len());
         }
-        Ok(())
+        drop(all);
+        self.tell();
+        if is_stored {
+            self.come.notify_waiters();
+        }
+        waits.map_or(false, |waits| waits.send(put).is_ok())
     }
 
-    /// The first logs that a watcher has not acknowledged, but for those that it got.
-    fn wanted_by(&self, watcher: usize, got: &BTreeSet<u32>, most: usize) -> Vec<u32> {
+    /// Notes that the log of a run, which all watchers have acknowledged, is in the second folder, or is gone.
+    pub fn is_moved(&self, run: u32, is_there: bool) {
+        let mut all = self.all();
+        let Some(log) = all.waiting.remove(&run) else { return };
+        if is_there {
+            all.acknowledged.insert(run, log.bytes);
+        } else {
+            all.bytes -= log.bytes;
+        }
+        drop(all);
+        self.tell();
+    }
+
+    /// The oldest acknowledged log, if it has to go, for its time is over by the timetable or for room. Tells whether its time
+    /// is over, or else whether there is room.
+    pub fn goes(&self, wanted: u64) -> Result<(u32, bool), bool> {
         let all = self.all();
-        let wanted = all.waiting.iter().filter(|(run, (_, wanted))| wanted.contains(&watcher) && !got.contains(run));
-        wanted.map(|(&run, _)| run).take(most).collect()
+        let is_full = all.bytes + wanted > self.most_bytes;
+        let is_over = |run: u32| all.newest.map_or(false, |newest| u64::from(newest.saturating_sub(run)) > self.keeps);
+        match all.acknowledged.first_key_value().map(|(&run, _)| (run, is_over(run))) {
+            Some((run, is_over)) if is_over || is_full => Ok((run, is_over)),
+            _ => Err(!is_full),
+        }
     }
 
-    /// How many logs not each watcher has acknowledged.
+    /// Notes that an acknowledged log was taken away, or that it can't be, and stays till the next start.
+    pub fn is_taken(&self, run: u32, is_gone: bool) {
+        let mut all = self.all();
+        let bytes = all.acknowledged.remove(&run).unwrap_or(0);
+        all.bytes -= if is_gone { bytes } else { 0 };
+    }
+}
+
+pub struct Spool {
+    logs: Arc<Logs>,
+    jobs: Sender<Job>,
+    _lock: Lock,
+}
+
+/// The text of the file that says whose logs a spool has.
+fn owner_text(file: &NodeFile) -> String {
+    format!("system {}\nnode {}\n", hex::encode(file.system.id), file.node.number)
+}
+
+/// Whether a folder has a file.
+fn has_files(folder: &Path) -> Result<bool, End> {
+    match fs::read_dir(folder) {
+        Ok(mut files) => Ok(files.next().is_some()),
+        Err(told) if told.kind() == io::ErrorKind::NotFound => Ok(false),
+        Err(told) => Err(End::unusable(folder.display(), &told)),
+    }
+}
+
+/// Refuses the logs of another node or system, and makes the file that says whose these are if there are none.
+fn compare_owner(folder: &Path, wanted: &str) -> Result<(), End> {
+    let path = folder.join(OWNER);
+    match fs::read_to_string(&path) {
+        Ok(text) if text == wanted => Ok(()),
+        Ok(_) => Err(End::fault(&path, "the logs are of another node, or of another system")),
+        Err(told) if told.kind() != io::ErrorKind::NotFound => Err(End::unusable(path.display(), &told)),
+        Err(_) if has_files(&folder.join(WAITING))? || has_files(&folder.join(ACKNOWLEDGED))? => {
+            Err(End::fault(&path, format!("nothing says whose logs these are; this node's have {wanted:?} there")))
+        }
+        Err(_) => disk::put(&path, 0o644, wanted.as_bytes()).map_err(End::file(&path)),
+    }
+}
+
+impl Spool {
+    /// Takes the folder, reads what is there, and makes what is not there.
+    pub fn open(file: &NodeFile, counts: Counts) -> Result<Spool, End> {
+        let folder = &file.node.spool;
+        fs::create_dir_all(folder).map_err(End::file(folder))?;
+        let lock = Lock::take(folder)?;
+        compare_owner(folder, &owner_text(file))?;
+        let watchers = file.watchers.iter().map(|it| it.address).collect();
+        let keeps = DAY_MS * u64::from(file.spool.days) / u64::from(file.clock.period_ms);
+        Spool::start(Logs::new(folder, watchers, keeps, file.spool.most_bytes, counts)?, lock)
+    }
+
+    /// Starts the thread that has the files.
+    fn start(logs: Logs, _lock: Lock) -> Result<Spool, End> {
+        let (logs, (jobs, asked)) = (Arc::new(logs), channel());
+        let shelf = Shelf::new(logs.clone());
+        let started = thread::Builder::new().name("disk".into()).spawn(move || shelf.work(&asked));
+        started.map_err(|told| End::unusable("a thread", &told))?;
+        Ok(Spool { logs, jobs, _lock })
+    }
+
+    /// Hands the log of a run to the disk. Where the spool has no room, the oldest logs go that each watcher has acknowledged.
+    pub fn keep(&self, run: u32, log: &[u8]) -> Keeping<'_> {
+        let put = pack(log).map(|bytes| self.put(run, bytes.into()));
+        Keeping { counts: &self.logs.counts, run, since: Instant::now(), put }
+    }
+
+    /// Has the thread of the disk put a log. It is held in memory until then, as long as there is room.
+    fn put(&self, run: u32, bytes: Arc<[u8]>) -> Receiver<io::Result<()>> {
+        let (waits, put) = sync_channel(1);
+        for lost in self.logs.all().hold(run, Unstored { bytes, waits: Some(waits) }) {
+            self.logs.counts.spool_lost.inc();
+            tracing::error!(alarm = "spool", run = lost, "the log is lost: the disk did not take it");
+        }
+        self.ask(Job::Put(run));
+        put
+    }
+
+    fn ask(&self, job: Job) {
+        if self.jobs.send(job).is_err() {
+            tracing::error!(alarm = "spool", "the thread of the disk has ended");
+        }
+    }
+
+    /// Waits until a log comes.
+    pub fn come(&self) -> tokio::sync::futures::Notified<'_> {
+        self.logs.come.notified()
+    }
+
+    /// The first logs to hand to a watcher now, without those for which it owes an answer: one at a time of those that are
+    /// passed by, behind all others.
+    pub fn wanted_by(&self, watcher: usize, unanswered: &VecDeque<u32>, most: usize) -> Vec<u32> {
+        let (all, now) = (self.logs.all(), Instant::now());
+        let tries = all.waiting.iter().filter_map(|(&run, log)| log.wanted.get(&watcher).map(|tries| (run, tries)));
+        let due = tries.filter(|(run, tries)| tries.is_due(now) && !unanswered.contains(run));
+        let (mut wanted, mut passed_by) = (vec![], None);
+        for (run, tries) in due {
+            if tries.is_passed_by() {
+                passed_by = passed_by.or(Some(run));
+            } else if wanted.len() < most {
+                wanted.push(run);
+            } else {
+                break;
+            }
+        }
+        let has_room = wanted.len() < most && unanswered.is_empty();
+        wanted.extend(passed_by.filter(|_| has_room));
+        wanted
+    }
+
+    /// When the next log may be tried again at a watcher that owes no answer.
+    pub fn next_try(&self, watcher: usize) -> Option<Instant> {
+        let all = self.logs.all();
+        let times = all.waiting.values().filter_map(|log| log.wanted.get(&watcher)?.again);
+        times.min()
+    }
+
+    /// How many logs a watcher has still to acknowledge, without those that are passed by, or are not on the disk.
     pub fn waiting(&self) -> usize {
-        self.all().waiting.len()
+        let all = self.logs.all();
+        let is_passed_by = |log: &&Waiting| !log.wanted.is_empty() && log.wanted.values().all(Tries::is_passed_by);
+        all.waiting.len() - all.waiting.values().filter(is_passed_by).count() + all.unstored.len()
+    }
+
+    /// The logs that are passed by, with the watcher and the reason.
+    pub fn passed_by(&self) -> Vec<Json> {
+        let all = self.logs.all();
+        let tries =
+            all.waiting.iter().flat_map(|(run, log)| log.wanted.iter().map(move |(place, tries)| (run, place, tries)));
+        let passed_by = tries.filter(|(.., tries)| tries.is_passed_by());
+        let named = |(run, place, tries): (&u32, &usize, &Tries)| json!({ "run": run, "watcher": self.logs.watchers[*place], "why": tries.why });
+        passed_by.map(named).take(MOST_TOLD).collect()
+    }
+
+    /// Reads a log that waits, by the thread of the disk.
+    pub async fn read(&self, run: u32) -> io::Result<Vec<u8>> {
+        let (answer, read) = oneshot::channel();
+        self.ask(Job::Read(run, answer));
+        read.await.map_err(|_| io::Error::other("the thread of the disk has ended"))?
     }
 
     /// Notes that a log is durable at a watcher.
-    fn acknowledge(&self, watcher: usize, run: u32) -> io::Result<()> {
-        let _turn = self.turn();
-        let is_last = |wanted: &BTreeSet<usize>| wanted.len() == 1 && wanted.contains(&watcher);
-        if self.all().waiting.get(&run).map_or(false, |(_, wanted)| is_last(wanted)) {
-            fs::rename(self.path(run, true), self.path(run, false))?;
-            let mut all = self.all();
-            if let Some((kept, _)) = all.waiting.remove(&run) {
-                all.acknowledged.insert(run, kept);
-            }
-            drop(all);
-            self.make_room(0)?;
-        } else if let Some((_, wanted)) = self.all().waiting.get_mut(&run) {
-            wanted.remove(&watcher);
+    pub fn acknowledge(&self, watcher: usize, run: u32) {
+        let mut all = self.logs.all();
+        let Some(log) = all.waiting.get_mut(&run) else { return };
+        let is_last = log.wanted.remove(&watcher).is_some() && log.wanted.is_empty();
+        drop(all);
+        self.logs.tell();
+        if is_last {
+            self.ask(Job::Move(run));
         }
-        self.tell();
-        Ok(())
+    }
+
+    /// Notes that a log could not be handed to a watcher.
+    pub fn fail(&self, watcher: usize, run: u32, why: &str) {
+        let mut all = self.logs.all();
+        let tries = all.waiting.get_mut(&run).and_then(|log| log.wanted.get_mut(&watcher));
+        let is_last = tries.map_or(false, |tries| tries.fail(why, Instant::now()));
+        drop(all);
+        let watcher = self.logs.watchers[watcher];
+        match is_last {
+            true => tracing::error!(alarm = "spool", run, %watcher, why, "a log is passed by: it can't be handed over"),
+            false => tracing::warn!(run, %watcher, why, "a log could not be handed over"),
+        }
+        self.logs.tell();
+    }
+
+    /// Notes that a connection ended while a watcher owed the answer for this log.
+    pub fn set_back(&self, watcher: usize, run: u32) {
+        let mut all = self.logs.all();
+        if let Some(tries) = all.waiting.get_mut(&run).and_then(|log| log.wanted.get_mut(&watcher)) {
+            tries.set_back(Instant::now());
+        }
+    }
+}
+
+/// A log that was handed to the disk.
+pub struct Keeping<'a> {
+    counts: &'a Counts,
+    run: u32,
+    since: Instant,
+    put: io::Result<Receiver<io::Result<()>>>,
+}
+
+impl Keeping<'_> {
+    /// Waits so long at most. Tells whether the log is on the disk, once that is known or has taken too long.
+    pub fn wait(&self, most: Duration) -> Option<bool> {
+        let put = match &self.put {
+            Err(told) => Err(told.to_string()),
+            Ok(put) => match put.recv_timeout(most) {
+                Ok(put) => put.map_err(|told| told.to_string()),
+                Err(RecvTimeoutError::Timeout) if self.since.elapsed() < MOST_PUT => return None,
+                Err(_) => Err("the disk has not taken it".into()),
+            },
+        };
+        if let Err(told) = &put {
+            self.counts.spool_refused.inc();
+            tracing::error!(alarm = "spool", run = self.run, told, "the log was not kept");
+        }
+        Some(put.is_ok())
     }
 }
 
@@ -221,82 +473,28 @@ pub fn write_log(file: &NodeFile, run: u32) -> Result<(), End> {
     zstd::stream::copy_decode(kept, io::stdout()).map_err(End::file(&path))
 }
 
-/// Sends a watcher all logs that it has not acknowledged, for ever.
-pub async fn ship(shared: Arc<Shared>, transport: Transport, place: usize, watcher: Watcher) {
-    let mut backoff = Backoff::new();
-    loop {
-        let connecting = async {
-            let mut stream = transport.connect(watcher.address, &watcher.name).await?;
-            let hello = Hello { system: shared.file.system.id, node: shared.file.node.number as u8 };
-            frames::write(&mut stream, frames::HELLO, &[&hello.to_bytes()]).await?;
-            io::Result::Ok(stream)
-        };
-        let ended = match connecting.await {
-            Ok(stream) => {
-                backoff.is_connected();
-                serve(&shared.spool, place, stream).await
-            }
-            Err(told) => Err(told),
-        };
-        if let Err(told) = ended {
-            tracing::debug!(watcher = %watcher.address, %told, "no watcher");
-        }
-        backoff.wait().await;
-    }
-}
-
-/// Sends logs, some before the answers to those before them, and notes what is acknowledged.
-async fn serve(spool: &Spool, place: usize, stream: Stream) -> io::Result<()> {
-    let (mut from, mut to) = tokio::io::split(stream);
-    let mut unanswered = BTreeSet::new();
-    loop {
-        let come = spool.come.notified();
-        for run in spool.wanted_by(place, &unanswered, MOST_UNANSWERED - unanswered.len()) {
-            send_log(spool, run, &mut to).await?;
-            unanswered.insert(run);
-        }
-        if unanswered.is_empty() {
-            // A connection that the watcher has ended is seen here too.
-            let _ = tokio::select! { () = come => continue, told = frames::read(&mut from, 4) => answer(spool, place, told?)? };
-            continue;
-        }
-        let message = timeout(MOST_ANSWER, frames::read(&mut from, 4)).await;
-        let message = message.map_err(|_| io::Error::new(io::ErrorKind::TimedOut, "no acknowledgement comes"))??;
-        unanswered.remove(&answer(spool, place, message)?);
-    }
-}
-
-/// Takes an acknowledgement, and tells the run.
-fn answer(spool: &Spool, place: usize, message: Option<frames::Message>) -> io::Result<u32> {
-    let message = message.ok_or_else(|| io::Error::from(io::ErrorKind::UnexpectedEof))?;
-    match <[u8; 4]>::try_from(&message.body[..]) {
-        Ok(number) if message.kind == frames::ACKNOWLEDGED => {
-            let run = u32::from_be_bytes(number);
-            spool.acknowledge(place, run).map(|()| run)
-        }
-        _ => Err(io::Error::new(io::ErrorKind::InvalidData, "no acknowledgement")),
-    }
-}
-
-async fn send_log(spool: &Spool, run: u32, to: &mut tokio::io::WriteHalf<Stream>) -> io::Result<()> {
-    let log = tokio::fs::read(spool.path(run, true)).await?;
-    let written = timeout(MOST_ANSWER, frames::write(to, frames::LOG, &[&run.to_be_bytes(), &log])).await;
-    written.map_err(|_| io::Error::new(io::ErrorKind::TimedOut, "the watcher does not read"))?
-}
-
 #[cfg(test)]
 mod tests {
     use sha2::{Digest, Sha256};
+    use tokio::io::{duplex, DuplexStream};
 
     use super::*;
+    use crate::frames::{self, Stream};
+    use crate::node::ship::serve;
 
-    fn spool(name: &str, watchers: usize, most_bytes: u64) -> Spool {
+    /// How long something may take that the thread of the disk does, or a watcher.
+    const PATIENCE: Duration = Duration::from_secs(20);
+
+    fn folder(name: &str) -> PathBuf {
         let folder = std::env::temp_dir().join(format!("vamuretu.{}.{name}", std::process::id()));
-        for it in [WAITING, ACKNOWLEDGED] {
-            fs::create_dir_all(folder.join(it)).expect("a folder");
-        }
-        let (all, turn, come, counts) = (Mutex::default(), Mutex::default(), Notify::new(), Counts::new(40));
-        Spool { folder, watchers, keeps: DAY, most_bytes, all, turn, come, counts }
+        fs::create_dir_all(&folder).expect("a folder");
+        folder
+    }
+
+    fn spool(name: &str, watchers: usize, keeps: u64, most_bytes: u64) -> Spool {
+        let (folder, address) = (folder(name), "127.0.0.1:1".parse().expect("an address"));
+        let logs = Logs::new(&folder, vec![address; watchers], keeps, most_bytes, Counts::new(40)).expect("logs");
+        Spool::start(logs, Lock::take(&folder).expect("the folder")).expect("a thread")
     }
 
     /// A log that zstd cannot shorten.
@@ -304,31 +502,190 @@ mod tests {
         (0..32).flat_map(|at| Sha256::digest([byte, at])).collect()
     }
 
+    /// Keeps a log, and waits for the disk.
+    fn keep(spool: &Spool, run: u32, log: &[u8]) -> bool {
+        spool.keep(run, log).wait(PATIENCE).expect("the disk has an answer")
+    }
+
+    fn await_that(holds: impl Fn() -> bool) {
+        let end = Instant::now() + PATIENCE;
+        while !holds() {
+            assert!(Instant::now() < end, "too late");
+            thread::sleep(Duration::from_millis(5));
+        }
+    }
+
+    fn wanted(spool: &Spool, watcher: usize) -> Vec<u32> {
+        spool.wanted_by(watcher, &VecDeque::new(), 9)
+    }
+
+    /// The runs whose logs each folder has.
+    fn runs_of(spool: &Spool) -> [Vec<u32>; 2] {
+        [WAITING, ACKNOWLEDGED].map(|name| {
+            let files = fs::read_dir(spool.logs.folder.join(name)).expect("a folder");
+            let mut runs: Vec<u32> = files
+                .map(|it| it.expect("a file").file_name().to_string_lossy()[..10].parse().expect("a number"))
+                .collect();
+            runs.sort_unstable();
+            runs
+        })
+    }
+
+    fn end(spool: Spool) {
+        fs::remove_dir_all(&spool.logs.folder).expect("taken away");
+    }
+
     #[test]
     fn a_log_waits_until_each_watcher_has_it() {
-        let spool = spool("waits", 2, 1 << 20);
-        assert!(spool.keep(7, &log(1)) && spool.keep(9, &log(2)));
-        let (none, first) = (BTreeSet::new(), BTreeSet::from([7]));
-        assert_eq!((spool.wanted_by(0, &none, 9), spool.wanted_by(1, &first, 9)), (vec![7, 9], vec![9]));
-        spool.acknowledge(0, 7).expect("noted");
-        assert_eq!((spool.wanted_by(0, &none, 9), spool.waiting()), (vec![9], 2));
-        spool.acknowledge(1, 7).expect("noted");
-        assert_eq!((spool.waiting(), spool.path(7, false).exists(), spool.path(7, true).exists()), (1, true, false));
-        let kept = zstd::decode_all(&fs::read(spool.path(9, true)).expect("a file")[..]).expect("a log");
+        let spool = spool("waits", 2, 99, 1 << 20);
+        assert!(keep(&spool, 7, &log(1)) && keep(&spool, 9, &log(2)));
+        assert_eq!((wanted(&spool, 0), spool.wanted_by(1, &[7].into(), 9)), (vec![7, 9], vec![9]));
+        spool.acknowledge(0, 7);
+        assert_eq!((wanted(&spool, 0), spool.waiting()), (vec![9], 2));
+        spool.acknowledge(1, 7);
+        await_that(|| spool.waiting() == 1);
+        assert_eq!(runs_of(&spool), [vec![9], vec![7]]);
+        let kept = zstd::decode_all(&fs::read(spool.logs.path(9, true)).expect("a file")[..]).expect("a log");
         assert_eq!(kept, log(2));
-        fs::remove_dir_all(&spool.folder).expect("taken away");
+        end(spool);
     }
 
     #[test]
     fn the_bound_is_never_passed() {
-        let spool = spool("bound", 1, 2500);
-        let is_within = || spool.all().bytes <= 2500;
-        assert!(spool.keep(1, &log(1)) && spool.keep(2, &log(2)));
-        assert!(!spool.keep(3, &log(3)) && is_within(), "nothing is acknowledged");
-        spool.acknowledge(0, 1).expect("noted");
-        assert!(spool.keep(4, &log(4)) && is_within());
-        assert_eq!(spool.wanted_by(0, &BTreeSet::new(), 9), vec![2, 4]);
-        assert_eq!((spool.counts.spool_refused.get(), spool.counts.spool_given_up.get()), (1, 1));
-        fs::remove_dir_all(&spool.folder).expect("taken away");
+        let spool = spool("bound", 1, 99, 2500);
+        let is_within = || spool.logs.all().bytes <= 2500;
+        assert!(keep(&spool, 1, &log(1)) && keep(&spool, 2, &log(2)));
+        assert!(!keep(&spool, 3, &log(3)) && is_within(), "nothing is acknowledged");
+        assert_eq!((spool.logs.counts.spool_refused.get(), spool.waiting()), (1, 3));
+        spool.acknowledge(0, 1);
+        await_that(|| runs_of(&spool) == [vec![2, 3], vec![]]);
+        await_that(|| spool.logs.counts.spool_late.get() == 1);
+        assert!(is_within());
+        assert_eq!((wanted(&spool, 0), spool.logs.counts.spool_given_up.get()), (vec![2, 3], 1));
+        end(spool);
+    }
+
+    #[test]
+    fn what_the_disk_did_not_take_is_put_later() {
+        let spool = spool("later", 1, 99, 1 << 20);
+        let waiting = spool.logs.folder.join(WAITING);
+        fs::remove_dir(&waiting).expect("no folder");
+        assert!(!keep(&spool, 5, &log(5)) && wanted(&spool, 0).is_empty());
+        assert_eq!((spool.waiting(), spool.logs.counts.spool_unstored.get()), (1, 1));
+        fs::create_dir(&waiting).expect("a folder");
+        await_that(|| wanted(&spool, 0) == [5]);
+        let counts = &spool.logs.counts;
+        assert_eq!((counts.spool_unstored.get(), counts.spool_late.get(), counts.spool_lost.get()), (0, 1, 0));
+        end(spool);
+    }
+
+    #[test]
+    fn what_waits_in_memory_has_a_bound() {
+        let mut all = All::default();
+        let of = |bytes: usize| Unstored { bytes: vec![0; bytes].into(), waits: None };
+        assert!(all.hold(1, of(MOST_UNSTORED / 2)).is_empty() && all.hold(2, of(MOST_UNSTORED / 2)).is_empty());
+        assert_eq!((all.hold(3, of(1)), all.hold(4, of(2 * MOST_UNSTORED))), (vec![1], vec![2, 3]));
+        assert_eq!((all.unstored.len(), all.newest), (1, Some(4)));
+    }
+
+    #[test]
+    fn logs_go_by_the_number_of_their_run() {
+        let spool = spool("days", 1, 2, 1 << 20);
+        for run in [1, 2, 3] {
+            assert!(keep(&spool, run, &log(run as u8)));
+            spool.acknowledge(0, run);
+        }
+        await_that(|| runs_of(&spool) == [vec![], vec![1, 2, 3]]);
+        assert!(keep(&spool, 4, &log(4)));
+        assert_eq!(runs_of(&spool), [vec![4], vec![2, 3]]);
+        // A start counts no time: the folder is as it was.
+        let (folder, counts) = (spool.logs.folder.clone(), Counts::new(40));
+        drop(spool);
+        let logs = Logs::new(&folder, vec![], 0, 1 << 20, counts).expect("logs");
+        assert_eq!(logs.goes(0), Err(true));
+        fs::remove_dir_all(&folder).expect("taken away");
+    }
+
+    #[test]
+    fn a_log_is_tried_again_later_and_later() {
+        let (mut tries, now) = (Tries::default(), Instant::now());
+        assert!(tries.is_due(now) && !tries.fail("bytes", now) && !tries.fail("bytes", now));
+        assert!(!tries.is_due(now) && tries.is_due(now + BETWEEN_TRIES) && !tries.is_passed_by());
+        assert!(tries.fail("third", now) && tries.is_passed_by() && !tries.fail("third", now));
+        assert!(!tries.is_due(now + PASSED_BY / 2) && tries.is_due(now + PASSED_BY));
+        let mut tries = Tries::default();
+        (0..40).for_each(|_| tries.set_back(now));
+        assert!(tries.is_due(now + BETWEEN_TRIES * (1 << MOST_DOUBLED)) && !tries.is_passed_by());
+    }
+
+    #[test]
+    fn a_spool_is_of_one_node() {
+        let folder = folder("owner");
+        let status = |wanted: &str| compare_owner(&folder, wanted).map_or_else(|told| told.status, |()| 0);
+        assert_eq!((status("node 1"), status("node 1"), status("node 2")), (0, 0, 3));
+        fs::remove_file(folder.join(OWNER)).and_then(|()| fs::create_dir(folder.join(WAITING))).expect("an old folder");
+        assert_eq!(status("node 2"), 0);
+        fs::remove_file(folder.join(OWNER)).expect("an old folder");
+        fs::write(path_of(&folder, 7, true), b"a log").expect("a log");
+        assert_eq!(status("node 2"), 3);
+        fs::remove_dir_all(&folder).expect("taken away");
+    }
+
+    /// A watcher that has an answer to each log, or ends the connection. Tells the runs of the logs that it got.
+    async fn watch(mut stream: DuplexStream, answers: fn(u32) -> Option<(u8, &'static [u8])>) -> Vec<u32> {
+        let mut got = vec![];
+        while let Ok(Some(message)) = frames::read(&mut stream, 1 << 20).await {
+            let number = message.body[..4].try_into().expect("a number");
+            got.push(u32::from_be_bytes(number));
+            let Some((kind, word)) = answers(u32::from_be_bytes(number)) else { break };
+            frames::write(&mut stream, kind, &[&number, word]).await.expect("written");
+        }
+        got
+    }
+
+    /// Connects a spool with such a watcher until something holds.
+    async fn ship_until(
+        spool: &Spool,
+        answers: fn(u32) -> Option<(u8, &'static [u8])>,
+        holds: impl Fn() -> bool,
+    ) -> Vec<u32> {
+        let (mut got, end) = (vec![], Instant::now() + PATIENCE);
+        while !holds() {
+            assert!(Instant::now() < end, "too late: {got:?}");
+            let (near, far) = duplex(1 << 16);
+            let watching = tokio::spawn(watch(far, answers));
+            let some = Duration::from_millis(200);
+            let _ = tokio::time::timeout(some, serve(spool, 0, Box::new(near) as Stream)).await;
+            got.extend(watching.await.expect("a watcher"));
+        }
+        got
+    }
+
+    #[tokio::test]
+    async fn a_log_that_is_refused_stops_no_other() {
+        let spool = spool("refused", 1, 99, 1 << 20);
+        (1..=40).for_each(|run| assert!(keep(&spool, run, &log(run as u8))));
+        fs::remove_file(spool.logs.path(5, true)).expect("gone");
+        fs::write(spool.logs.path(6, true), b"cut").expect("cut");
+        fs::remove_file(spool.logs.path(7, true)).expect("gone");
+        nix::unistd::mkfifo(&spool.logs.path(7, true), nix::sys::stat::Mode::S_IRUSR).expect("a pipe");
+        let answers =
+            |run: u32| Some(if run == 3 { (frames::REFUSED, &b"third"[..]) } else { (frames::ACKNOWLEDGED, &b""[..]) });
+        let is_done = || spool.waiting() == 0 && spool.logs.counts.spool_stuck.get() == 4;
+        let got = ship_until(&spool, answers, is_done).await;
+        assert_eq!((got.iter().filter(|&&run| run == 3).count(), runs_of(&spool)[0].clone()), (3, vec![3, 6, 7]));
+        let told = spool.passed_by();
+        assert_eq!((told.len(), &told[0]), (4, &json!({ "run": 3, "watcher": "127.0.0.1:1", "why": "third" })));
+        end(spool);
+    }
+
+    #[tokio::test]
+    async fn a_watcher_that_ends_the_connection_gets_the_others() {
+        let spool = spool("ends", 1, 99, 1 << 20);
+        (1..=40).for_each(|run| assert!(keep(&spool, run, &log(run as u8))));
+        let answers = |run: u32| (run != 3).then_some((frames::ACKNOWLEDGED, &b""[..]));
+        ship_until(&spool, answers, || spool.waiting() == 1).await;
+        assert_eq!((runs_of(&spool)[0].clone(), spool.logs.counts.spool_stuck.get()), (vec![3], 0));
+        end(spool);
     }
 }

@@ -8,6 +8,7 @@ mod page;
 mod worth;
 
 use std::collections::BTreeMap;
+use std::ffi::OsStr;
 use std::fs::File;
 use std::io::Read;
 use std::path::{Path, PathBuf};
@@ -15,6 +16,7 @@ use std::path::{Path, PathBuf};
 use crate::archive::id_of;
 use crate::archive::read::Range;
 use crate::config::Id;
+use crate::text::quoted;
 use crate::{disk, End};
 use page::Page;
 
@@ -51,10 +53,10 @@ pub struct Report {
 
 /// Names of nodes.
 #[derive(Default)]
-struct Names(BTreeMap<u32, String>);
+pub struct Names(BTreeMap<u32, String>);
 
 impl Names {
-    fn read(path: &Path) -> Result<Names, End> {
+    pub fn read(path: &Path) -> Result<Names, End> {
         let text = std::fs::read_to_string(path).map_err(End::file(path))?;
         let names: BTreeMap<String, String> = toml::from_str(&text).map_err(|told| End::fault(path, told))?;
         let named = |(node, name): (String, String)| node.parse().map(|node| (node, name));
@@ -69,6 +71,20 @@ impl Names {
             None => format!("{word} {node}"),
         }
     }
+
+    /// Who has a number in a run: a node, and the general of the run that it is, if the node of each general is known.
+    fn in_run(&self, number: u32, nodes: &[u32]) -> String {
+        match nodes.iter().position(|node| *node == number) {
+            Some(general) => format!("{}, general {general} in this run", self.of("node", number)),
+            None => self.of("general", number),
+        }
+    }
+
+    /// Which node each general of a run is.
+    fn generals(&self, nodes: &[u32]) -> String {
+        let of = |(general, node): (usize, &u32)| format!(" General {general} is {}.", self.of("node", *node));
+        nodes.iter().enumerate().map(of).collect()
+    }
 }
 
 /// The program's own sentence on a name.
@@ -77,17 +93,12 @@ fn sentence(name: &str) -> String {
     told.lines().skip(1).take_while(|line| line.starts_with(' ')).map(str::trim).collect::<Vec<_>>().join(" ")
 }
 
-/// A name as a shell takes it for itself.
-fn quoted(path: &Path) -> String {
-    format!("'{}'", path.to_string_lossy().replace('\'', "'\\''"))
-}
-
 /// The commands that make the evidence of a conviction in a run, out of a file with these runs, and check it. Where the node
-/// has a number in a system, a remark tells it.
+/// has a number in a system, a remark tells it. The run is the first of the file that convicts this general.
 fn commands(general: u32, node: Option<u32>, run: &str, runs: &[String], file: &Path) -> String {
     let remark = node.map_or_else(String::new, |node| format!("# node {node} is general {general} of this run\n"));
-    let ids = runs.iter().map(|id| format!(" --run {id}")).collect::<String>();
-    let accuse = format!("sm_tool accuse --general {general}{ids}");
+    let (ids, run) = (quoted(&runs.join(",")), quoted(run));
+    let accuse = format!("sm_tool accuse --general {general} --run {ids}");
     let made = match file.extension().is_some_and(|end| end == "zst") {
         true => format!("zstd -dc --long=27 {} | {accuse}", quoted(file)),
         false => format!("{accuse} {}", quoted(file)),
@@ -103,17 +114,18 @@ fn counted(count: usize, one: &str, several: &str) -> String {
     }
 }
 
-/// How the page is signed, and by which program it was made.
-fn close(page: &mut Page, out: &Path) {
-    let name = out.file_name().map_or_else(|| "report.html".into(), |it| it.to_string_lossy().into_owned());
-    let quoted = format!("'{}'", name.replace('\'', "'\\''"));
-    let is_plain = name.bytes().all(|it| it.is_ascii_alphanumeric() || b"._-".contains(&it)) && !name.starts_with('-');
-    let name = if is_plain { name } else { quoted };
+/// How the page is signed.
+fn signing(page: &mut Page, out: &Path) {
+    let name = quoted(out.file_name().unwrap_or(OsStr::new("report.html")));
     page.head("To sign this page, and to show when it was there");
     page.code(&worth::SIGNING.replace("NAME", &name));
     page.text(&worth::STAMPING.replace("NAME", &name));
     page.text("Others check it so:");
     page.code(&worth::CHECKING.replace("NAME", &name));
+}
+
+/// By which program the page was made.
+fn close(page: &mut Page) {
     page.text(&format!("Written by vamuretu {}.", env!("CARGO_PKG_VERSION")));
 }
 
@@ -136,12 +148,14 @@ mod tests {
 
     #[test]
     fn names_for_a_shell() {
-        assert_eq!(quoted(Path::new("a'; rm -rf b")), "'a'\\''; rm -rf b'");
         let runs = ["1".into(), "2".into()];
-        let wanted = "sm_tool accuse --general 3 --run 1 --run 2 'a b' > evidence\nsm_tool evidence --run 2 evidence";
+        let wanted = "sm_tool accuse --general 3 --run 1,2 'a b' > evidence\nsm_tool evidence --run 2 evidence";
         assert_eq!(commands(3, None, "2", &runs, Path::new("a b")), wanted);
-        let wanted = "# node 1 is general 3 of this run\nzstd -dc --long=27 'a.zst' | sm_tool accuse";
-        assert!(commands(3, Some(1), "2", &runs, Path::new("a.zst")).starts_with(wanted));
+        let wanted = "# node 1 is general 3 of this run\nzstd -dc --long=27 ./-a.zst | sm_tool accuse";
+        assert!(commands(3, Some(1), "2", &runs, Path::new("-a.zst")).starts_with(wanted));
+        let runs = ["0; touch pwned #".to_owned()];
+        let wanted = "sm_tool accuse --general 3 --run '0; touch pwned #' a > evidence\nsm_tool evidence --run '0; touch pwned #' evidence";
+        assert_eq!(commands(3, None, &runs[0], &runs, Path::new("a")), wanted);
     }
 
     #[test]
@@ -150,6 +164,9 @@ mod tests {
         std::fs::write(&path, "2 = \"Pump house\"\n").expect("a file");
         let names = Names::read(&path).expect("names");
         assert_eq!((names.of("node", 2), names.of("node", 3)), ("node 2 (Pump house)".into(), "node 3".into()));
+        assert_eq!(names.in_run(2, &[1, 2, 0]), "node 2 (Pump house), general 1 in this run");
+        assert_eq!(names.in_run(3, &[]), "general 3");
+        assert_eq!(names.generals(&[2, 0]), " General 0 is node 2 (Pump house). General 1 is node 0.");
         std::fs::write(&path, "pump = \"2\"\n").expect("a file");
         assert_eq!(Names::read(&path).err().map(|end| end.status), Some(3));
         std::fs::remove_file(path).expect("a file");

@@ -1,16 +1,17 @@
 //! The page on a bundle or a campaign.
 
+use std::collections::BTreeSet;
 use std::path::Path;
 
 use vamuretu::{Expected, RunId};
 
 use super::page::{Field, Page};
-use super::{close, counted, sentence, worth, Names, Report};
+use super::{close, sentence, signing, worth, Names, Report};
 use crate::archive::files;
 use crate::archive::judged::{Admissions, Answer, Run};
-use crate::archive::read::spelled;
 use crate::archive::room::Rooms;
 use crate::archive::{admissions_of, judged};
+use crate::text::spelled;
 use crate::End;
 
 /// What is known of whose run a file is.
@@ -48,18 +49,21 @@ pub fn page(asked: &Report, names: &Names) -> Result<Page, End> {
     }
     let text = vamuretu::audit_of(expected, false, &input).map_err(wrong)?;
     let json = vamuretu::audit_json(expected, &input).map_err(wrong)?;
-    let answer = judged::Answer::of(json).map_err(|told| End::fault(&asked.of, told))?;
-    let mut page = Page::new(&format!("Report on {}", spelled(Path::new(asked.of.file_name().unwrap_or_default()))));
-    said(&mut page, &answer, names);
-    if matches!(expected, Expected::Runs([])) {
-        page.text(worth::ALONE);
+    let answer = judged::Answer::on(&input, json).map_err(wrong)?;
+    let mut page = Page::new(&format!("Report on {}", spelled(asked.of.file_name().unwrap_or_default())));
+    let (is_alone, none) = (matches!(expected, Expected::Runs([])), Names::default());
+    let names = if is_alone { &none } else { names };
+    if is_alone {
+        page.verdict(false, worth::ALONE);
     }
+    said(&mut page, &answer, names);
     page.text(worth::AGREED);
     convicted(&mut page, &answer, names, &asked.of);
     page.head("In the program's own words");
     page.code(&String::from_utf8_lossy(&vamuretu::words(text.text().as_bytes()).map_err(wrong)?));
     page.head("A picture");
-    page.picture("The logs, round by round, and what was found", &vamuretu::draw_of(expected, &input).map_err(wrong)?);
+    let what = format!("The logs, round by round, and what was found.{}", generals(&answer, names));
+    page.picture(&what, &vamuretu::draw_of(expected, &input).map_err(wrong)?);
     judged_by(&mut page, asked, content.sha256, answer.input);
     Ok(page)
 }
@@ -75,32 +79,41 @@ fn judged_by(page: &mut Page, asked: &Report, stored: String, input: String) {
     ];
     let rows: Vec<Vec<Field>> = rows.into_iter().map(|(name, value)| vec![name.into(), Field::Code(value)]).collect();
     page.table(&["", ""], &rows);
-    close(page, &asked.out);
+    signing(page, &asked.out);
+    close(page);
 }
 
-/// What a node is called in a run.
-fn word(run: &Run) -> &'static str {
-    if run.admitted.is_some() {
-        "node"
-    } else {
-        "general"
-    }
+/// The node that each general of a run is, if an admission shows it.
+fn nodes_of(run: &Run) -> &[u32] {
+    run.admitted.as_ref().map_or(&[], |it| &it.1)
+}
+
+/// Which node each general is, run by run.
+fn generals(answer: &Answer, names: &Names) -> String {
+    let of = |run: &Run| match &run.admitted {
+        Some((number, nodes)) => format!(" Run {number}:{}", names.generals(nodes)),
+        None => String::new(),
+    };
+    answer.runs.iter().map(of).collect()
 }
 
 /// The verdicts, run by run.
 fn said(page: &mut Page, answer: &Answer, names: &Names) {
-    let is_well = answer.runs.iter().all(|run| run.verdict == "agreed" && run.accused.is_empty());
-    let accused: usize = answer.runs.iter().map(|run| run.accused.len()).sum();
-    let convicted = match accused {
-        0 => "Nobody is convicted.".into(),
-        count => format!("{} by signatures.", counted(count, "conviction", "convictions")),
-    };
-    for (place, run) in answer.runs.iter().enumerate() {
+    for run in &answer.runs {
         let number = run.admitted.as_ref().map_or_else(|| format!("Run {}", run.run_id), |it| format!("Run {}", it.0));
         let value = run.value.map_or_else(String::new, |value| format!(" The value is {value}."));
-        let last = if place + 1 == answer.runs.len() { convicted.as_str() } else { "" };
-        page.verdict(is_well, &format!("{number}: {}. {}{value} {last}", run.verdict, worth::verdict(&run.verdict)));
-        let nodes = |nodes: &[u32]| nodes.iter().map(|it| names.of(word(run), *it)).collect::<Vec<_>>().join(", ");
+        let who = run.accused.iter().map(|it| format!("{} by {}", names.in_run(it.node, nodes_of(run)), it.kind));
+        let convicted = match run.accused.is_empty() {
+            true => "Nobody is convicted.".to_owned(),
+            false => format!("Signatures convict {}.", who.collect::<Vec<_>>().join("; ")),
+        };
+        let is_well = run.verdict == "agreed" && run.accused.is_empty();
+        page.verdict(
+            is_well,
+            &format!("{number}: {}. {}{value} {convicted}", run.verdict, worth::verdict(&run.verdict)),
+        );
+        let nodes =
+            |nodes: &[u32]| nodes.iter().map(|it| names.in_run(*it, nodes_of(run))).collect::<Vec<_>>().join("; ");
         for (what, these) in [
             ("Set aside as faulty", &run.listed),
             ("Without a log", &run.missing),
@@ -116,14 +129,18 @@ fn said(page: &mut Page, answer: &Answer, names: &Names) {
 /// Who is convicted, and what that is worth.
 fn convicted(page: &mut Page, answer: &Answer, names: &Names, file: &Path) {
     let (mut rows, mut commands): (Vec<Vec<Field>>, Vec<String>) = (vec![], vec![]);
+    let mut met = BTreeSet::new();
     let ids: Vec<String> = answer.runs.iter().map(|run| run.run_id.clone()).collect();
     for run in &answer.runs {
         for it in &run.accused {
-            let node = names.of(word(run), it.node);
             let said = vec![worth::kind(&it.kind).into(), format!("{}: {}", it.kind, sentence(&it.kind))];
-            rows.push(vec![node.into(), Field::Code(run.run_id.clone()), Field::Lines(said)]);
-            let number = run.admitted.as_ref().map(|_| it.node);
-            commands.push(super::commands(run.general_of(it.node), number, &run.run_id, &ids, file));
+            let who = vec![names.in_run(it.node, nodes_of(run)), format!("root {}", it.root)];
+            rows.push(vec![Field::Lines(who), Field::Code(run.run_id.clone()), Field::Lines(said)]);
+            let general = run.general_of(it.node);
+            if met.insert(general) {
+                let number = run.admitted.as_ref().map(|_| it.node);
+                commands.push(super::commands(general, number, &run.run_id, &ids, file));
+            }
         }
     }
     if !rows.is_empty() {

@@ -1,17 +1,18 @@
 //! The page on an index: convictions first, then all else that is not as it should be.
 
-use std::collections::BTreeMap;
-use std::path::Path;
+use std::collections::{BTreeMap, BTreeSet};
+use std::path::{Path, PathBuf};
 
-use sha2::{Digest, Sha256};
+use sha2::{Digest as _, Sha256};
 
 use super::line::{self, State};
 use super::page::{Field, Page};
-use super::{close, commands, counted, quoted, sentence, worth, Names, Report};
+use super::{close, commands, counted, sentence, signing, worth, Names, Report};
 use crate::archive::digest_line;
 use crate::archive::files;
-use crate::archive::read::{spelled, Found, Kept, Question, Reader};
+use crate::archive::read::{Digest, Found, Kept, Question, Reader, Who};
 use crate::archive::room::Rooms;
+use crate::text::{quoted, spelled};
 use crate::watch::judge::digest;
 use crate::End;
 
@@ -22,8 +23,9 @@ const MOST_BYTES: usize = 2 << 20;
 /// How many files have a line each, and how many of them are named where a few are enough.
 const MOST_FILES: usize = 500;
 const FEW: usize = 5;
-/// How long a list of numbers may be in a sentence.
+/// How long a list of numbers may be in a sentence, and how many digits of a root stand there.
 const MOST_NUMBERS: usize = 60;
+const DIGITS: usize = 16;
 
 /// What an index has, as far as a page tells it.
 struct Told {
@@ -34,20 +36,42 @@ struct Told {
     states: BTreeMap<u32, State>,
     /// The rows that are no runs of a yes without a conviction.
     odd: Vec<Kept>,
+    digests: Vec<Digest>,
+    /// Whether there are runs without a number, though nothing gives numbers.
+    is_numberless: bool,
+    /// The folder that paths of a watcher count from.
+    folder: PathBuf,
 }
 
-/// The numbers in few words, as `3, 5 to 9`.
-fn ranges(numbers: impl Iterator<Item = u32>) -> String {
+/// Ranges of numbers in few words, as `3, 5 to 9`.
+fn ranges(numbers: impl Iterator<Item = (u32, u32)>) -> String {
     let mut ranges: Vec<(u32, u32)> = vec![];
-    for number in numbers {
+    for (first, last) in numbers {
         match ranges.last_mut() {
-            Some((_, last)) if number == *last + 1 => *last = number,
-            Some((_, last)) if number <= *last => {}
-            _ => ranges.push((number, number)),
+            Some((_, end)) if first <= end.saturating_add(1) => *end = last.max(*end),
+            _ => ranges.push((first, last)),
         }
     }
     let of = |(from, to): (u32, u32)| if from == to { from.to_string() } else { format!("{from} to {to}") };
     ranges.into_iter().map(of).collect::<Vec<_>>().join(", ")
+}
+
+/// The numbers of runs in few words.
+fn numbers<'a>(found: impl Iterator<Item = &'a Found>) -> String {
+    ranges(found.filter_map(|it| it.number.map(|number| (number, it.last.unwrap_or(number)))))
+}
+
+/// How many runs these are.
+fn count(found: &[Found]) -> usize {
+    found.iter().map(|it| it.count() as usize).sum()
+}
+
+/// Who has a number in a run of an index. Names are those of nodes, so a general without a node has none.
+fn called(number: u32, nodes: &[u32], names: &Names) -> String {
+    if nodes.is_empty() {
+        return format!("general {number}");
+    }
+    names.in_run(number, nodes)
 }
 
 impl Told {
@@ -70,7 +94,10 @@ impl Told {
         }
         let is_odd = |it: &&Kept| it.is_there() && is_own(it.number) && state_of(it) > State::Agreed;
         let odd = runs.iter().filter(is_odd).cloned().collect();
-        Ok(Told { runs, convicted, gaps, bounds, states, odd })
+        let is_numberless = !reader.has_admissions && runs.iter().any(|it| it.is_there() && it.number.is_none());
+        let above = asked.of.parent().map(Path::to_owned).unwrap_or_default();
+        let (digests, folder) = (reader.digests()?, asked.folder.clone().unwrap_or(above));
+        Ok(Told { runs, convicted, gaps, bounds, states, odd, digests, is_numberless, folder })
     }
 
     fn count(&self, verdict: &str) -> usize {
@@ -108,8 +135,10 @@ pub fn page(asked: &Report, names: &Names) -> Result<Page, End> {
         ("Changes since an earlier audit", &changed),
     ];
     let counts = [&counts[..], &more[..]].concat();
+    numberless(&mut page, &told, &asked.of);
     in_short(&mut page, &told, names, &counts);
     convictions(&mut page, &told, names);
+    evidence(&mut page, &told, names);
     counts_of(&mut page, &told, &counts);
     verdicts(&mut page, &told, names);
     let explained = |it: &Found| vec![Field::Lines(vec![it.said.clone(), sentences(&it.said)])];
@@ -121,40 +150,66 @@ pub fn page(asked: &Report, names: &Names) -> Result<Page, End> {
     section(&mut page, "Nodes that share keys", "Which", &equal, worth::EQUAL, "equal-roots", said);
     section(&mut page, "Changes since an earlier audit", "What is said now", &changed, "", "changed", said);
     line_of_runs(&mut page, &told);
-    pictures(&mut page, &told, asked);
-    judged(&mut page, &reader, &told, asked)?;
+    pictures(&mut page, &told, names);
+    judged(&mut page, &reader, &told, asked);
     Ok(page)
+}
+
+/// How runs get their numbers, if they have none.
+fn numberless(page: &mut Page, told: &Told, index: &Path) {
+    if told.is_numberless {
+        page.verdict(false, worth::NUMBERLESS);
+        page.code(&format!("vamuretu archive add {} --system ID --admissions FOLDER", quoted(index)));
+    }
 }
 
 /// What a reader takes away: who is convicted in which runs, and what else there is.
 fn in_short(page: &mut Page, told: &Told, names: &Names, counts: &[(&str, &Vec<Found>)]) {
-    let mut nodes: BTreeMap<(bool, u32), Vec<Option<u32>>> = BTreeMap::new();
+    let mut by: BTreeMap<&Who, Vec<&Found>> = BTreeMap::new();
     for it in &told.convicted {
-        nodes.entry((!it.is_node, it.node.unwrap_or_default())).or_default().push(it.number);
+        it.who.iter().for_each(|who| by.entry(who).or_default().push(it));
     }
-    let of = |((is_general, node), runs): (&(bool, u32), &Vec<Option<u32>>)| {
-        let numbers = ranges(runs.iter().copied().flatten());
-        let runs = match runs.len() {
-            1 if !numbers.is_empty() => format!("run {numbers}"),
-            _ if (1..MOST_NUMBERS).contains(&numbers.len()) => format!("runs {numbers}"),
-            count => counted(count, "run", "runs"),
-        };
-        format!("{} in {runs}", names.of(if *is_general { "general" } else { "node" }, *node))
-    };
-    let convicted = match nodes.is_empty() {
+    let more = by.len().saturating_sub(FEW);
+    let convicted = by.into_iter().take(FEW).map(|(who, found)| convicted_in(who, &found, names));
+    let more = (more > 0).then(|| format!("{more} more"));
+    let convicted: Vec<String> = convicted.chain(more).collect();
+    let convicted = match convicted.is_empty() {
         true => "No node is convicted by its signatures.".into(),
-        false => format!("Signatures convict {}.", nodes.iter().map(of).collect::<Vec<_>>().join(", and ")),
+        false => format!("Signatures convict {}.", convicted.join(", and ")),
     };
     let all = told.runs.iter().filter(|it| it.is_there()).count();
     let judged =
         format!("{}, and {} agreed.", counted(all, "run was judged", "runs were judged"), told.count("agreed"));
     let bounds = told.bounds.map_or_else(String::new, |(first, last)| {
-        let missing = counted(told.gaps.len(), "has no file that can be judged", "have no file that can be judged");
+        let missing = counted(count(&told.gaps), "has no file that can be judged", "have no file that can be judged");
         format!(" Of the runs {first} to {last}, {missing}.")
     });
     let is_well = told.odd.is_empty() && counts.iter().all(|it| it.1.is_empty());
     let rest = if is_well { "Nothing else was found." } else { "What else was found stands below." };
     page.verdict(is_well, &format!("{convicted} {judged}{bounds} {rest}"));
+}
+
+/// Who is convicted, in which runs.
+fn convicted_in(who: &Who, found: &[&Found], names: &Names) -> String {
+    let runs: BTreeSet<_> = found.iter().map(|it| (it.number, &it.run_id)).collect();
+    let several = counted(runs.len(), "run", "runs");
+    let numbers = numbers(found.iter().copied());
+    let only = found.first().filter(|_| runs.len() == 1);
+    match (who, only) {
+        (Who::Root(root), Some(it)) => {
+            let (general, run) = (it.general.unwrap_or_default(), it.run_id.as_deref().unwrap_or_default());
+            format!("the holder of the root {root:.DIGITS$}.., general {general} of the run {run:.DIGITS$}..")
+        }
+        (Who::Root(root), None) => format!("the holder of the root {root:.DIGITS$}.. in {several}"),
+        (Who::Node(node), Some(it)) => {
+            let general = it.general.map_or_else(String::new, |it| format!(", where it is general {it}"));
+            format!("{} in run {numbers}{general}", names.of("node", *node))
+        }
+        (Who::Node(node), None) if numbers.len() < MOST_NUMBERS => {
+            format!("{} in runs {numbers}", names.of("node", *node))
+        }
+        (Who::Node(node), None) => format!("{} in {several}", names.of("node", *node)),
+    }
 }
 
 /// How much there is of everything.
@@ -165,7 +220,7 @@ fn counts_of(page: &mut Page, told: &Told, counts: &[(&str, &Vec<Found>)]) {
         vec![format!("Runs with the verdict {it}").into(), told.count(it).to_string().into(), Field::Lines(said)]
     };
     let mut rows: Vec<Vec<Field>> = ["agreed", "explained", "no"].map(row).into();
-    rows.extend(counts.iter().map(|(name, found)| vec![(*name).into(), found.len().to_string().into(), "".into()]));
+    rows.extend(counts.iter().map(|(name, found)| vec![(*name).into(), count(found).to_string().into(), "".into()]));
     page.table(&["", "How many", "What it means"], &rows);
     page.text(worth::AGREED);
 }
@@ -177,38 +232,104 @@ fn convictions(page: &mut Page, told: &Told, names: &Names) {
         page.text("Nobody.");
         return;
     }
-    let mut rows: BTreeMap<(bool, u32, String), Vec<&Found>> = BTreeMap::new();
+    let mut rows: BTreeMap<(&Who, &str), Vec<&Found>> = BTreeMap::new();
     for it in &told.convicted {
-        let key = (!it.is_node, it.node.unwrap_or_default(), it.kind.clone().unwrap_or_default());
-        rows.entry(key).or_default().push(it);
+        let kind = it.kind.as_deref().unwrap_or_default();
+        it.who.iter().for_each(|who| rows.entry((who, kind)).or_default().push(it));
     }
-    let row = |((is_general, node, kind), found): (&(bool, u32, String), &Vec<&Found>)| {
-        let word = if *is_general { "general" } else { "node" };
-        let numbers = ranges(found.iter().filter_map(|it| it.number));
-        let ids = found.iter().filter(|it| it.number.is_none()).filter_map(|it| it.run_id.clone()).take(FEW);
-        let runs = Some(numbers).filter(|it| !it.is_empty()).into_iter().chain(ids);
-        let files = found.iter().take(FEW).flat_map(|it| it.files.iter().map(|path| spelled(path)));
-        let more = (found.len() > FEW).then(|| format!("and {} more", found.len() - FEW));
+    let row = |((who, kind), found): (&(&Who, &str), &Vec<&Found>)| {
+        let files = few(found.iter().flat_map(|it| it.files.iter().map(|path| spelled(path))).collect());
         let said = vec![worth::kind(kind).to_owned(), format!("{kind}: {}", sentence(kind))];
-        let (runs, files) = (runs.collect(), files.chain(more).collect());
-        vec![names.of(word, *node).into(), Field::Lines(runs), Field::Lines(said), Field::Lines(files)]
+        let who = match who {
+            Who::Node(node) => vec![names.of("node", *node)],
+            Who::Root(root) => vec!["whoever has the keys of the root".into(), root.clone()],
+        };
+        vec![Field::Lines(who), Field::Lines(runs_of(found)), Field::Lines(said), Field::Lines(files)]
     };
-    page.table(&["Who", "Runs", "What for", "Files"], &rows.iter().map(row).collect::<Vec<_>>());
+    let listed: Vec<Vec<Field>> = rows.iter().take(MOST_ROWS).map(row).collect();
+    page.table(&["Who", "Runs", "What for", "Files"], &listed);
+    more(page, rows.len(), "convictions");
     page.list(&worth::CONVICTION);
     page.text(worth::CHECKED);
     let first = rows.values().filter_map(|found| found.first()).take(MOST_PICTURES);
-    page.code(&first.map(|it| commands_of(it)).collect::<Vec<_>>().join("\n"));
+    page.code(&first.map(|it| commands_of(it, told)).collect::<Vec<_>>().join("\n"));
+}
+
+/// The first of several lines, and how many there are besides.
+fn few(mut lines: Vec<String>) -> Vec<String> {
+    lines.dedup();
+    let more = lines.len().saturating_sub(FEW);
+    lines.truncate(FEW);
+    lines.extend((more > 0).then(|| format!("and {more} more")));
+    lines
+}
+
+/// The runs of convictions: a few with the general that is convicted there, or else their numbers.
+fn runs_of(found: &[&Found]) -> Vec<String> {
+    let numbers = numbers(found.iter().copied());
+    if found.len() > FEW && !numbers.is_empty() {
+        return vec![numbers];
+    }
+    let of = |it: &&Found| {
+        let run = run_of(it.number, it.run_id.as_ref());
+        it.general.map_or_else(|| run.clone(), |general| format!("{run}: general {general} there"))
+    };
+    few(found.iter().map(of).collect())
 }
 
 /// The commands by which others check a conviction.
-fn commands_of(found: &Found) -> String {
+fn commands_of(found: &Found, told: &Told) -> String {
     let run = found.run_id.as_deref().unwrap_or_default();
     if let Some(evidence) = &found.evidence {
-        return format!("sm_tool evidence --run {run} {}", quoted(Path::new(evidence)));
+        return format!("sm_tool evidence --run {} {}", quoted(run), quoted(&told.folder.join(evidence)));
     }
-    let file = found.files.first().map_or(Path::new(""), |it| it.as_path());
-    let node = found.node.filter(|_| found.is_node);
-    commands(found.general.unwrap_or_default(), node, run, &found.runs, file)
+    // Of a file with several runs, the evidence is that of the first one that convicts this general.
+    let place = |it: &&Found| it.runs.iter().position(|id| Some(id) == it.run_id.as_ref());
+    let same = told.convicted.iter().filter(|it| it.files == found.files && it.general == found.general);
+    let first = same.min_by_key(place).unwrap_or(found);
+    let node = match first.who {
+        Some(Who::Node(node)) => Some(node),
+        _ => None,
+    };
+    let file = first.files.first().map_or(Path::new(""), |it| it.as_path());
+    commands(first.general.unwrap_or_default(), node, first.run_id.as_deref().unwrap_or(run), &first.runs, file)
+}
+
+/// What became of a file that a watcher has stored.
+fn is_kept(folder: &Path, file: &Digest) -> &'static str {
+    match files::read(&folder.join(&file.path), &Rooms::default()) {
+        Ok(content) if content.sha256 == file.sha256 => "as it was stored",
+        Ok(_) => "other bytes",
+        Err(told) if told.kind() == std::io::ErrorKind::NotFound => "gone",
+        Err(_) => "cannot be read",
+    }
+}
+
+/// All evidence that a watcher has stored.
+fn evidence(page: &mut Page, told: &Told, names: &Names) {
+    let stored = || told.digests.iter().filter_map(|it| it.evidence.as_ref().map(|of| (it, of)));
+    if stored().next().is_none() {
+        return;
+    }
+    page.head("The evidence that is kept");
+    let row = |(file, (node, kind)): (&Digest, &(u32, String))| {
+        let number = file.number.map(|it| it.to_string()).unwrap_or_default();
+        let path = Field::Code(spelled(&file.path));
+        vec![
+            number.into(),
+            names.of("node", *node).into(),
+            kind.as_str().into(),
+            path,
+            is_kept(&told.folder, file).into(),
+        ]
+    };
+    let rows: Vec<Vec<Field>> = stored().take(MOST_ROWS).map(row).collect();
+    page.table(&["Run", "Against", "By", "File", "Now"], &rows);
+    let left = stored().count().saturating_sub(MOST_ROWS);
+    if left > 0 {
+        page.text(&format!("And {left} more: vamuretu archive export --digests INDEX"));
+    }
+    page.text(worth::EVIDENCE);
 }
 
 /// Runs that are not agreed, with what was found and whom that names.
@@ -219,18 +340,17 @@ fn verdicts(page: &mut Page, told: &Told, names: &Names) {
     }
     page.head("Runs that are not agreed");
     let row = |it: &&Kept| {
-        let word = if it.number.is_some() { "node" } else { "general" };
-        let nodes = |nodes: &[u32]| nodes.iter().map(|it| names.of(word, *it)).collect::<Vec<_>>().join(", ");
+        let nodes = |these: &[u32]| Field::Lines(these.iter().map(|node| called(*node, &it.nodes, names)).collect());
         let (named, aside) = (nodes(&it.suspected), nodes(&it.listed));
         let verdict = it.verdict.clone().unwrap_or_default();
         let findings = it.findings.iter().map(|id| format!("{id}: {}", sentence(id)));
-        let file = it.path.as_deref().map(spelled).unwrap_or_default();
+        let file = it.path.as_deref().map(|path| spelled(path)).unwrap_or_default();
         vec![
             run_of(it.number, it.run_id.as_ref()).into(),
             verdict.into(),
             Field::Lines(findings.collect()),
-            named.into(),
-            aside.into(),
+            named,
+            aside,
             file.into(),
         ]
     };
@@ -291,12 +411,12 @@ fn gaps(page: &mut Page, told: &Told) {
         return;
     }
     page.head("Runs without a file that can be judged");
-    let mut by: BTreeMap<&str, Vec<u32>> = BTreeMap::new();
+    let mut by: BTreeMap<&str, Vec<&Found>> = BTreeMap::new();
     for it in &told.gaps {
-        by.entry(&it.said).or_default().extend(it.number);
+        by.entry(&it.said).or_default().push(it);
     }
-    let rows: Vec<Vec<Field>> =
-        by.into_iter().map(|(said, numbers)| vec![ranges(numbers.into_iter()).into(), said.into()]).collect();
+    let row = |(said, found): (&str, Vec<&Found>)| vec![numbers(found.into_iter()).into(), said.into()];
+    let rows: Vec<Vec<Field>> = by.into_iter().map(row).collect();
     page.table(&["Runs", "What is missing"], &rows);
     page.text(worth::GAP);
 }
@@ -321,24 +441,20 @@ fn line_of_runs(page: &mut Page, told: &Told) {
 }
 
 /// Pictures of the first runs in which something was found, of files that are still as they were judged.
-fn pictures(page: &mut Page, told: &Told, asked: &Report) {
+fn pictures(page: &mut Page, told: &Told, names: &Names) {
     let mut odd: Vec<&Kept> = told.odd.iter().collect();
     odd.sort_by_key(|it| std::cmp::Reverse(state_of(it)));
     odd.dedup_by(|one, other| one.path == other.path);
-    let above = asked.of.parent().map(Path::to_owned).unwrap_or_default();
-    let folder = asked.folder.clone().unwrap_or(above);
     if !odd.is_empty() {
         page.head("Pictures of the first of these runs");
     }
     for run in odd.into_iter().take(MOST_PICTURES) {
         let Some(path) = &run.path else { continue };
-        let nodes =
-            (0..).zip(&run.nodes).map(|(general, node): (u32, _)| format!(" General {general} is node {node}."));
         let number = run_of(run.number, run.run_id.as_ref());
-        let what = format!("Run {number}: {}: {}.{}", run.said(), spelled(path), nodes.collect::<String>());
-        match drawn(&folder.join(path), run) {
+        let what = format!("Run {number}: {}: {}.{}", run.said(), spelled(path), names.generals(&run.nodes));
+        match drawn(&told.folder.join(path), run) {
             Ok(svg) => page.picture(&what, &svg),
-            Err(told) => page.text(&format!("{what}: no picture: {told}")),
+            Err(told) => page.text(&format!("{what} No picture: {told}")),
         }
     }
 }
@@ -363,49 +479,62 @@ fn moment(ms: i64) -> String {
 }
 
 /// Digests and versions.
-fn judged(page: &mut Page, reader: &Reader, told: &Told, asked: &Report) -> Result<(), End> {
+fn judged(page: &mut Page, reader: &Reader, told: &Told, asked: &Report) {
     page.head("What was judged, and by what");
-    let mut all = Sha256::new();
-    told.runs.iter().filter_map(digest_line).for_each(|line| all.update(line));
     let mut by: BTreeMap<(&str, &str), (i64, i64)> = BTreeMap::new();
     for it in &told.runs {
         let times =
             by.entry((&it.library, it.program.as_deref().unwrap_or("the watcher's"))).or_insert((it.judged, it.judged));
         *times = (times.0.min(it.judged), times.1.max(it.judged));
     }
+    let mut all = Sha256::new();
+    told.digests.iter().for_each(|file| all.update(digest_line(file)));
+    let commits = !told.digests.is_empty();
     let mut rows: Vec<Vec<Field>> = vec![
         vec!["Index".into(), Field::Code(spelled(&asked.of))],
         vec!["System".into(), Field::Code(reader.system.clone().unwrap_or_else(|| "none was named".into()))],
-        vec!["SHA-256 over the digests of all files".into(), Field::Code(hex::encode(all.finalize()))],
     ];
+    if commits {
+        let sum = Field::Code(hex::encode(all.finalize()));
+        rows.push(vec!["SHA-256 over the digests of all files".into(), sum]);
+    }
     for ((library, program), (first, last)) in by {
         let times = format!("Judged from {} to {}, by the clock of that machine", moment(first), moment(last));
         rows.push(vec![times.into(), Field::Code(format!("library {library}, program {program}"))]);
     }
     page.table(&["", ""], &rows);
-    page.text("The digests are those of this command, and its output by sha256sum is the digest above:");
-    let index = quoted(&asked.of);
-    let export = format!("vamuretu archive export --digests {index} | sha256sum");
-    page.code(&format!("{export}\n{export} -c --quiet"));
-    let files: Vec<&Kept> = told.runs.iter().filter(|it| it.sha256.is_some() && it.place == 0).collect();
-    if files.len() <= MOST_FILES {
-        let row = |it: &&Kept| {
-            let path = it.path.as_deref().map(spelled).unwrap_or_default();
-            vec![
-                it.number.map(|it| it.to_string()).unwrap_or_default().into(),
-                it.said().into(),
-                Field::Code(it.sha256.clone().unwrap_or_default()),
-                path.into(),
-            ]
-        };
-        page.table_behind(
-            "All files, with their digests",
-            &["Run", "Verdict", "SHA-256", "File"],
-            &files.iter().map(row).collect::<Vec<_>>(),
-        );
+    if commits {
+        digests(page, told, asked);
+        signing(page, &asked.out);
+    } else {
+        page.verdict(false, worth::UNCOMMITTED);
     }
-    close(page, &asked.out);
-    Ok(())
+    close(page);
+}
+
+/// How the digests are looked at again, and all of them.
+fn digests(page: &mut Page, told: &Told, asked: &Report) {
+    page.text("The digests are those of this command, and its output by sha256sum is the digest above:");
+    let export = format!("vamuretu archive export --digests {}", quoted(&asked.of));
+    // An index of an archive has the whole paths of files, and that of a watcher has them from its folder on.
+    let check = match told.folder.as_os_str().is_empty() {
+        true => "sha256sum -c --quiet".to_owned(),
+        false => format!("(cd {} && sha256sum -c --quiet)", quoted(&told.folder)),
+    };
+    page.code(&format!("{export} | sha256sum\n{export} | {check}"));
+    if told.digests.len() > MOST_FILES {
+        return;
+    }
+    let row = |it: &Digest| {
+        let number = it.number.map(|it| it.to_string()).unwrap_or_default();
+        let what = match &it.evidence {
+            Some((node, kind)) => format!("evidence against node {node} by {kind}"),
+            None => it.said.clone().unwrap_or_default(),
+        };
+        vec![number.into(), what.into(), Field::Code(it.sha256.clone()), spelled(&it.path).into()]
+    };
+    let rows: Vec<Vec<Field>> = told.digests.iter().map(row).collect();
+    page.table_behind("All files, with their digests", &["Run", "What", "SHA-256", "File"], &rows);
 }
 
 #[cfg(test)]
@@ -414,8 +543,35 @@ mod tests {
 
     #[test]
     fn numbers_in_few_words() {
-        assert_eq!(ranges([3, 5, 6, 7, 7, 9, 10].into_iter()), "3, 5 to 7, 9 to 10");
+        let several = [(3, 3), (5, 5), (6, 7), (7, 7), (9, 9), (10, u32::MAX), (u32::MAX, u32::MAX)];
+        assert_eq!(ranges(several.into_iter()), "3, 5 to 7, 9 to 4294967295");
         assert_eq!(ranges([].into_iter()), "");
+    }
+
+    #[test]
+    fn who_is_convicted() {
+        let root = "ab".repeat(32);
+        let found = |who: &Who, number: Option<u32>, run: char| Found {
+            number,
+            run_id: Some(run.to_string().repeat(64)),
+            who: Some(who.clone()),
+            general: Some(1),
+            ..Found::default()
+        };
+        let (node, holder) = (Who::Node(3), Who::Root(root));
+        let said = |found: &[Found]| {
+            let found: Vec<&Found> = found.iter().collect();
+            convicted_in(found[0].who.as_ref().expect("a node"), &found, &Names::default())
+        };
+        let twice = [found(&node, Some(35), 'a'), found(&node, Some(35), 'a')];
+        assert_eq!(said(&twice), "node 3 in run 35, where it is general 1");
+        assert_eq!(said(&[found(&node, Some(35), 'a'), found(&node, Some(37), 'b')]), "node 3 in runs 35, 37");
+        let alone = "the holder of the root abababababababab.., general 1 of the run aaaaaaaaaaaaaaaa..";
+        assert_eq!(said(&[found(&holder, None, 'a')]), alone);
+        assert_eq!(
+            said(&[found(&holder, None, 'a'), found(&holder, None, 'b')]),
+            "the holder of the root abababababababab.. in 2 runs"
+        );
     }
 
     #[test]

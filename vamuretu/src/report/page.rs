@@ -2,11 +2,13 @@
 
 use std::fmt::Write;
 
+use crate::text::is_hidden;
+
 /// What a browser may do with the page: show it, and what stands in it.
 const POLICY: &str = "default-src 'none'; style-src 'unsafe-inline'; img-src data:";
 const STYLE: &str = include_str!("page.css");
 
-/// A text with what HTML takes for more than text written out.
+/// A text with what HTML takes for more than text written out, and with each hidden character too.
 pub fn escaped(text: &str) -> String {
     let mut escaped = String::with_capacity(text.len());
     for it in text.chars() {
@@ -17,7 +19,7 @@ pub fn escaped(text: &str) -> String {
             '"' => escaped.push_str("&quot;"),
             '\'' => escaped.push_str("&#39;"),
             '\n' | '\t' => escaped.push(it),
-            it if it.is_control() => escaped.push('\u{fffd}'),
+            it if is_hidden(it) => escaped.extend(it.escape_unicode()),
             it => escaped.push(it),
         }
     }
@@ -152,6 +154,6 @@ mod tests {
         let html = page.html();
         assert!(!html.contains("<script") && !html.contains('\u{1b}') && !html.contains("alert(1)</s"));
         assert_eq!(html.matches("&lt;script&gt;").count(), 15);
-        assert_eq!(escaped("a<b>&\"'\r"), "a&lt;b&gt;&amp;&quot;&#39;\u{fffd}");
+        assert_eq!(escaped("a<b>&\"'\r\u{202e}"), "a&lt;b&gt;&amp;&quot;&#39;\\u{d}\\u{202e}");
     }
 }

@@ -4,7 +4,7 @@
 /// What a conviction is worth.
 pub const CONVICTION: [&str; 4] = [
     "A conviction stands on signatures alone, and needs no witness: anybody can check it by the commands below.",
-    "It shows that the node, or somebody who has its keys, signed what a node that follows the rules never signs in one run.",
+    "It shows that the node, or somebody who has its keys, signed what a node that follows the rules never signs: in one run, or in two with the same keys.",
     "It leaves open who has the keys, why this was signed, and whether it did harm.",
     "The node can answer by the log that it kept. Such an answer asks who has the keys, and clears nobody.",
 ];
@@ -14,9 +14,9 @@ pub const CHECKED: &str =
     "Whoever doubts it takes the run id from a source of its own, and runs these, and the like for the other files:";
 
 /// What a verdict `agreed` is worth.
-pub const AGREED: &str =
-    "An agreed run tells what the correct nodes decided if no more nodes are faulty than it was planned \
-    for, if nobody else has the keys of a correct node, and if its run id or its system is known from elsewhere.";
+pub const AGREED: &str = "An agreed run tells what the correct nodes decided if no more nodes are faulty than the m that it was \
+    planned for, if at least m + 1 nodes are not set aside, if correct nodes are joined by walks through correct nodes as it was \
+    planned, if nobody else has the keys of a correct node, and if its run id or its system is known from elsewhere.";
 
 /// What a verdict `no` without a conviction is worth.
 pub const FINDING: [&str; 3] = [
@@ -34,6 +34,14 @@ pub const DOUBLE: &str =
 pub const EQUAL: &str = "Whoever has the keys of one of these nodes has those of the other, and is counted twice.";
 pub const GAP: &str =
     "A run in which nobody proposed leaves a file too. So a missing file was lost, kept back, or never made.";
+pub const NUMBERLESS: &str = "No admission shows these runs, so nothing says which node a general of a run is. The number of a \
+    general says nothing of another run: names are left out, and nothing is counted over runs but by the root of keys. Anybody \
+    can make such files. This gives runs and nodes their numbers:";
+pub const UNCOMMITTED: &str =
+    "The index knows the digest of no file. So this page commits to no file: whoever signs it signs no \
+    evidence.";
+pub const EVIDENCE: &str =
+    "Evidence is kept when its run is judged again. It convicts its node, whatever was said of the run later. An alarm named each of these files: where one is gone, somebody has taken it.";
 pub const ALONE: &str = "No run id was given. Anybody can make such a file: compare its run id with one that you know \
     from before the run.";
 

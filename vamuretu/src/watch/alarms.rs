@@ -40,12 +40,33 @@ pub fn of_node(kind: &'static str, number: Option<u32>, node: Option<u32>, said:
     Raised { kind, number, node, text }
 }
 
-/// The alarms of a run that was judged, planned for `most` faulty nodes. `before` is what was judged of it before, and who
-/// was convicted then.
+/// Whether an alarm says what another said.
+fn is_same(one: &Raised, other: &Raised) -> bool {
+    one.kind == other.kind && (one.kind != "suspected" || one.text["said"] == other.text["said"])
+}
+
+/// The kinds of the alarms of a run that were raised by what was judged of it before, and that do not hold by what is judged.
+pub fn taken_back(run: &Run, convicted: &[Convicted], most: usize, before: (&Run, &[Convicted])) -> Vec<&'static str> {
+    let (had, has) = (of(before.0, before.1, most, None), of(run, convicted, most, None));
+    let is_over = |was: &&Raised| was.kind != "conviction" && !has.iter().any(|it| is_same(it, was));
+    had.iter().filter(is_over).map(|was| was.kind).collect()
+}
+
+/// The alarm that takes another one of the same run back, of which the index has the place, unless it was made anew since.
+pub fn take_back(kind: &'static str, run: &Run, place: Option<i64>) -> Raised {
+    let mut raised =
+        of_run("taken-back", run, None, format!("the alarm {kind} does not hold by the logs that are there now"));
+    raised.text["taken_back"] = json!({ "alarm": kind, "place": place });
+    raised
+}
+
+/// The alarms of a run that was judged, planned for `most` faulty nodes. `convicted` are all convictions that were ever found,
+/// and `before` is what was judged of it before, and who was convicted then.
 pub fn of(run: &Run, convicted: &[Convicted], most: usize, before: Option<(&Run, &[Convicted])>) -> Vec<Raised> {
     let mut raised = vec![];
     let was_convicted = before.map_or(&[][..], |it| it.1);
-    for it in convicted.iter().filter(|it| !was_convicted.iter().any(|was| was.node == it.node)) {
+    let is_known = |it: &&Convicted| was_convicted.iter().any(|was| (was.node, &was.kind) == (it.node, &it.kind));
+    for it in convicted.iter().filter(|it| !is_known(it)) {
         let said = format!("node {} is convicted by {}: {}", it.node, it.kind, it.path);
         raised.push(of_run("conviction", run, Some(it.node), said));
     }
@@ -66,7 +87,7 @@ pub fn of(run: &Run, convicted: &[Convicted], most: usize, before: Option<(&Run,
     }
     if let Some((was, was_convicted)) = before {
         let had = of(was, was_convicted, most, None);
-        raised.retain(|it| it.kind == "conviction" || had.iter().all(|was| was.kind != it.kind));
+        raised.retain(|it| it.kind == "conviction" || !had.iter().any(|was| is_same(it, was)));
     }
     if let Some((was, _)) = before.filter(|(was, _)| (&was.verdict, was.value) != (&run.verdict, run.value)) {
         let said = format!("the verdict was {} {:?} before", was.verdict, was.value);
@@ -134,6 +155,7 @@ mod tests {
             file: None,
             library: "1.2.3".to_owned(),
             judged: 7,
+            nodes: vec![1, 2, 3, 0],
         }
     }
 
@@ -161,6 +183,34 @@ mod tests {
         assert_eq!(kinds(&now, &liar, Some((&before, &liar))), ["no", "changed"]);
         assert_eq!(kinds(&before, &liar, Some((&before, &[]))), ["conviction"]);
         assert_eq!(kinds(&now, &liar, Some((&now, &liar))), Vec::<&str>::new());
+    }
+
+    #[test]
+    fn what_takes_alarms_back() {
+        let none: &[Convicted] = &[];
+        let over = |run: &Run, convicted, was: &Run| taken_back(run, convicted, 1, (was, none));
+        let suspected = Run { others: vec![vec![3]], ..run("agreed", &[2], &[]) };
+        let liar = [Convicted { node: 3, kind: "K1".to_owned(), path: "3".to_owned() }];
+        assert_eq!(over(&run("agreed", &[3], &[]), &liar, &suspected), ["suspected"]);
+        assert_eq!(over(&run("agreed", &[1], &[]), none, &suspected), ["suspected"]);
+        assert_eq!(kinds(&run("agreed", &[1], &[]), none, Some((&suspected, none))), ["suspected"]);
+        assert_eq!(over(&suspected, none, &suspected), Vec::<&str>::new());
+        let gap = run("gap", &[0, 1, 2, 3], &[0, 1, 2, 3]);
+        assert_eq!(over(&run("explained", &[1, 2, 3], &[1, 2, 3]), none, &gap), ["gap"]);
+        assert_eq!(over(&run("agreed", &[], &[]), none, &run("explained", &[1, 2], &[1, 2])), ["explained", "missing"]);
+        assert_eq!(over(&run("agreed", &[2], &[]), none, &run("agreed", &[], &[])), Vec::<&str>::new());
+        let told = take_back("gap", &run("agreed", &[], &[]), Some(7));
+        assert_eq!((told.kind, told.number), ("taken-back", Some(5)));
+        assert_eq!(told.text["taken_back"], json!({ "alarm": "gap", "place": 7 }));
+    }
+
+    #[test]
+    fn each_kind_of_a_conviction_is_told() {
+        let by = |kind: &str| Convicted { node: 3, kind: kind.to_owned(), path: kind.to_owned() };
+        let judged = run("agreed", &[3], &[]);
+        let told = of(&judged, &[by("K1"), by("K2")], 1, Some((&judged, &[by("K2")])));
+        assert_eq!(told.iter().map(|it| it.kind).collect::<Vec<_>>(), ["conviction"]);
+        assert!(told[0].text["said"].to_string().contains("K1"));
     }
 
     #[test]

@@ -1,32 +1,39 @@
 //! Logs are collected: nodes connect, and push the logs of their runs.
 //!
 //! A node is not trusted, nor is what a connection says of itself: a log counts as that of a node if the node has signed
-//! all of it, whoever brings it. What is refused is not acknowledged, and ends the connection a moment later.
+//! all of it, whoever brings it. A log that is refused is answered by the reason, and the connection goes on. Only what is no
+//! message of a node ends it.
 
 use std::collections::HashMap;
 use std::fmt;
 use std::io;
 use std::sync::mpsc::{sync_channel, SyncSender};
-use std::sync::{Arc, Mutex};
+use std::sync::{Arc, Mutex, MutexGuard};
 use std::time::{Duration, Instant};
 
-use tokio::net::{TcpListener, TcpStream};
-use tokio::sync::Semaphore;
+use tokio::net::TcpListener;
+use tokio::sync::{Semaphore, SemaphorePermit};
 
 use super::index::{Kept, Log};
 use super::keep::{Job, Runs, Times};
 use super::{alarms, judge, Counts};
-use crate::config::Id;
-use crate::frames::{self, Hello, Message, Transport};
-use crate::{clock, End};
+use crate::clock::{self, Guard};
+use crate::config::WatchFile;
+use crate::doors::{self, Known, Shown};
+use crate::frames::{self, Message, Transport};
+use crate::End;
 
-/// How many connections there may be for each node, and how many logs are looked at at a time.
+/// How many connections there may be for each node.
 const MOST_CONNECTIONS: usize = 4;
-const MOST_LOOKED_AT: usize = 4;
 /// How long a connection may be silent, beyond a period.
 const MOST_SILENCE: Duration = Duration::from_secs(600);
-/// How long a connection is kept from the next try after something was refused.
-const AFTER_REFUSAL: Duration = Duration::from_secs(1);
+/// How long a node waits after its first refusal, and at most: each refusal has it wait twice as long as the one before, and
+/// after a while without any it begins anew.
+const FIRST_PAUSE: Duration = Duration::from_millis(50);
+const LONGEST_PAUSE: Duration = Duration::from_secs(2);
+const FORGIVEN_AFTER: Duration = Duration::from_secs(60);
+/// How long an answer may take to be taken.
+const MOST_ANSWER: Duration = Duration::from_secs(10);
 /// How often one reason of one node raises an alarm.
 const ALARM_EACH: Duration = Duration::from_secs(60);
 /// The bytes in front of a log in its message.
@@ -74,58 +81,91 @@ impl fmt::Display for Refused {
 
 /// Why a log was not kept.
 enum Failed {
-    Refused(Refused),
+    /// It is refused, of a run with this number if it has one.
+    Refused(Option<u32>, Refused),
     /// It is not the node's fault.
     Own(String),
 }
 
 /// What all connections have in common.
 pub struct Door {
-    pub id: Id,
+    pub places: Arc<doors::Door>,
     pub runs: Arc<Runs>,
     pub times: Times,
+    pub guard: Arc<Guard>,
     pub longest: usize,
     pub counts: Arc<Counts>,
     pub jobs: SyncSender<Job>,
-    pub transport: Transport,
     /// When a reason of a node raised an alarm last.
     pub alarmed: Mutex<HashMap<(u8, Refused), Instant>>,
+    /// What each node is looked at by, all of its connections together.
+    pub turns: Vec<Turn>,
+}
+
+/// The turn of a node: one log of it is looked at at a time, and after a refusal none for a while.
+pub struct Turn {
+    free: Semaphore,
+    pause: Mutex<Pause>,
+}
+
+impl Turn {
+    pub fn new() -> Turn {
+        Turn { free: Semaphore::new(1), pause: Mutex::default() }
+    }
+
+    /// Waits until a log of the node may be looked at.
+    async fn take(&self) -> Option<SemaphorePermit<'_>> {
+        let permit = self.free.acquire().await.ok()?;
+        let until = self.pause().until;
+        if let Some(until) = until {
+            tokio::time::sleep_until(until.into()).await;
+        }
+        Some(permit)
+    }
+
+    fn pause(&self) -> MutexGuard<'_, Pause> {
+        self.pause.lock().unwrap_or_else(|told| told.into_inner())
+    }
+}
+
+/// How long a node waits after a refusal.
+#[derive(Debug, Default)]
+struct Pause {
+    length: Duration,
+    until: Option<Instant>,
+}
+
+impl Pause {
+    fn refused(&mut self, now: Instant) {
+        let is_forgiven = self.until.map_or(true, |until| now.saturating_duration_since(until) > FORGIVEN_AFTER);
+        self.length = if is_forgiven { FIRST_PAUSE } else { (self.length * 2).min(LONGEST_PAUSE) };
+        self.until = Some(now + self.length);
+    }
+}
+
+/// The door for all nodes.
+pub fn places(file: &WatchFile, transport: &Transport) -> Result<Arc<doors::Door>, End> {
+    let known = (0..file.system.roots.len() as u32).map(|node| {
+        let watched = file.nodes.iter().find(|it| it.number == node);
+        let address = watched.and_then(|it| it.address).map(|address| address.to_canonical());
+        Known { node, address, keys: watched.map(|it| it.keys.clone()).unwrap_or_default() }
+    });
+    doors::Door::new(file.system.id, known.collect(), transport, frames::UNANSWERED_BY_WATCHER, MOST_CONNECTIONS)
 }
 
 /// Takes connections for ever.
 pub async fn listen(listener: TcpListener, door: Arc<Door>) {
-    let connections = Arc::new(Semaphore::new(MOST_CONNECTIONS * door.runs.systems.nodes() as usize));
-    let looks = Arc::new(Semaphore::new(MOST_LOOKED_AT));
-    loop {
-        let Ok(permit) = connections.clone().acquire_owned().await else { return };
-        match listener.accept().await {
-            Ok((stream, from)) => {
-                let (door, looks) = (door.clone(), looks.clone());
-                tokio::spawn(async move {
-                    if let Err(told) = serve(&door, &looks, stream, from).await {
-                        tracing::info!(%from, %told, "a connection ended");
-                    }
-                    drop(permit);
-                });
-            }
-            Err(told) => {
-                tracing::warn!(%told, "no connection was taken");
-                tokio::time::sleep(Duration::from_millis(100)).await;
-            }
-        }
-    }
+    let places = door.places.clone();
+    places.open(listener, move |shown| serve(door.clone(), shown)).await;
 }
 
-/// Takes what a connection brings, message by message, until it ends or brings what is refused.
-async fn serve(door: &Arc<Door>, looks: &Semaphore, stream: TcpStream, from: std::net::SocketAddr) -> io::Result<()> {
-    let mut stream = door.transport.accept(stream, from).await?.stream;
+/// Takes what a connection brings, message by message, until it ends or brings what is no message of a node.
+async fn serve(door: Arc<Door>, shown: Shown) -> io::Result<()> {
+    let Shown { node, from, mut stream } = shown;
+    tracing::debug!(%from, node, "a connection");
+    // The node by its key, not by what it says.
+    let node = node as u8;
     let late = |_| io::Error::from(io::ErrorKind::TimedOut);
-    let hello = tokio::time::timeout(frames::MOST_GREETING, frames::read_hello(&mut stream, &door.id)).await;
-    let Hello { node, .. } = hello.map_err(late)??;
-    if u32::from(node) >= door.runs.systems.nodes() {
-        return Err(io::Error::new(io::ErrorKind::InvalidData, "a hello of no node"));
-    }
-    tracing::info!(%from, node, "a connection");
     let most = FRONT + zstd::zstd_safe::compress_bound(door.longest);
     let silence = MOST_SILENCE + Duration::from_millis(door.times.clock.period_ms.into());
     loop {
@@ -140,18 +180,19 @@ async fn serve(door: &Arc<Door>, looks: &Semaphore, stream: TcpStream, from: std
                 return Err(told);
             }
         };
-        let Ok(permit) = looks.acquire().await else { return Ok(()) };
+        let Some(permit) = door.turns[usize::from(node)].take().await else { return Ok(()) };
         let own = door.clone();
         let looked = tokio::task::spawn_blocking(move || own.look(node, &message)).await?;
         drop(permit);
-        match looked {
-            Ok(number) => frames::write(&mut stream, frames::ACKNOWLEDGED, &[&number.to_be_bytes()]).await?,
+        let (kind, number, word) = match looked {
+            Ok(number) => (frames::ACKNOWLEDGED, number, ""),
+            Err(Failed::Refused(Some(number), why)) => (frames::REFUSED, number, why.word()),
+            Err(Failed::Refused(None, why)) => return Err(io::Error::new(io::ErrorKind::InvalidData, why.to_string())),
             Err(Failed::Own(told)) => return Err(io::Error::new(io::ErrorKind::Other, told)),
-            Err(Failed::Refused(_)) => {
-                tokio::time::sleep(AFTER_REFUSAL).await;
-                return Ok(());
-            }
-        }
+        };
+        let number = number.to_be_bytes();
+        let parts = [&number[..], word.as_bytes()];
+        tokio::time::timeout(MOST_ANSWER, frames::write(&mut stream, kind, &parts)).await.map_err(late)??;
     }
 }
 
@@ -159,28 +200,23 @@ impl Door {
     /// Looks at a message, and has its log kept. Tells the number of the run.
     fn look(&self, node: u8, message: &Message) -> Result<u32, Failed> {
         let number = message.body.get(..FRONT).and_then(|it| it.try_into().ok()).map(u32::from_be_bytes);
-        let kept = match number.filter(|_| message.kind == frames::LOG) {
+        let looked = match number.filter(|_| message.kind == frames::LOG) {
             Some(number) => self.keep(node.into(), number, &message.body[FRONT..]).map(|kept| (number, kept)),
-            None => Err(Failed::Refused(Refused::Message)),
+            None => Err(Failed::Refused(None, Refused::Message)),
         };
-        let (number, kept) = match kept {
-            Ok((_, Kept::TooMany)) => Err(Failed::Refused(Refused::TooMany)),
-            kept => kept,
+        if let Err(Failed::Refused(number, why)) = looked {
+            self.refuse(node, number, why);
         }
-        .map_err(|failed| {
-            if let Failed::Refused(why) = failed {
-                self.refuse(node, number, why);
-            }
-            failed
-        })?;
+        let (number, kept) = looked?;
         let word = if kept == Kept::New { "new" } else { "known" };
         self.counts.logs.with_label_values(&[word]).inc();
         Ok(number)
     }
 
-    /// Counts what was refused, and raises an alarm if there was none of this reason in the last minute.
+    /// Counts what was refused, has the node wait, and raises an alarm if there was none of this reason in the last minute.
     fn refuse(&self, node: u8, number: Option<u32>, why: Refused) {
         self.counts.refused.with_label_values(&[why.word()]).inc();
+        self.turns[usize::from(node)].pause().refused(Instant::now());
         let mut alarmed = self.alarmed.lock().unwrap_or_else(|told| told.into_inner());
         let now = Instant::now();
         if alarmed.get(&(node, why)).map_or(true, |last| now.duration_since(*last) >= ALARM_EACH) {
@@ -192,23 +228,69 @@ impl Door {
 
     /// Has a log kept, if it is one that the node has sealed.
     fn keep(&self, node: u32, number: u32, packed: &[u8]) -> Result<Kept, Failed> {
-        let latest = clock::now_ms().saturating_add(self.times.clock.bound_ms.into());
-        let begins = clock::beginning(number, &self.times.clock);
-        if u64::from(number) >= self.runs.systems.runs() || begins > latest {
-            return Err(Failed::Refused(Refused::Number));
+        let refused = |why| Failed::Refused(Some(number), why);
+        let look = self.guard.look();
+        let latest = look.latest_ms.saturating_add(self.times.clock.bound_ms.into());
+        let is_to_come = clock::beginning(number, &self.times.clock) > latest;
+        if u64::from(number) >= self.runs.systems.runs() || is_to_come && look.wrong.is_none() {
+            return Err(refused(Refused::Number));
         }
-        let bytes = judge::unpack(packed, self.longest).map_err(|_| Failed::Refused(Refused::Bytes))?;
+        if is_to_come {
+            return Err(Failed::Own("the clock is not to be believed now".into()));
+        }
+        let bytes = judge::unpack(packed, self.longest).map_err(|_| refused(Refused::Bytes))?;
         let run = self.runs.get(number).map_err(|End { line, .. }| Failed::Own(line))?;
         let general = run.general_of(node).ok_or_else(|| Failed::Own(format!("node {node} is in no run")))?;
         match judge::is_sealed(&run.header, general, &bytes) {
             Ok(true) => {}
-            Ok(false) => return Err(Failed::Refused(Refused::Unsealed)),
+            Ok(false) => return Err(refused(Refused::Unsealed)),
             Err(told) => return Err(Failed::Own(told.to_string())),
         }
         let log = Log { number, node, sha256: judge::digest(&bytes), bytes };
         let (answer, answered) = sync_channel(1);
         let gone = || Failed::Own("nothing is kept now".into());
         self.jobs.send(Job::Keep(log, answer)).map_err(|_| gone())?;
-        answered.recv().map_err(|_| gone())
+        match answered.recv().map_err(|_| gone())? {
+            Kept::TooMany => Err(refused(Refused::TooMany)),
+            kept => Ok(kept),
+        }
+    }
+}
+
+#[cfg(test)]
+mod tests {
+    use super::*;
+
+    #[test]
+    fn a_pause_grows_and_is_forgiven() {
+        let (mut pause, begun) = (Pause::default(), Instant::now());
+        let mut lengths = vec![];
+        for second in 0..8 {
+            pause.refused(begun + Duration::from_secs(second));
+            lengths.push(pause.length.as_millis());
+        }
+        assert_eq!(lengths, [50, 100, 200, 400, 800, 1600, 2000, 2000]);
+        pause.refused(begun + Duration::from_secs(99));
+        assert_eq!(pause.length, FIRST_PAUSE);
+    }
+
+    #[test]
+    fn the_pause_of_a_node_is_its_own() {
+        let runtime = tokio::runtime::Builder::new_current_thread().enable_time().build().expect("a runtime");
+        runtime.block_on(async {
+            let (one, other) = (Turn::new(), Turn::new());
+            let held = one.take().await.expect("a turn");
+            one.pause().refused(Instant::now());
+            assert!(one.pause().until.is_some());
+            let is_late = |turn| async { tokio::time::timeout(FIRST_PAUSE, turn).await.is_err() };
+            one.pause().until = Some(Instant::now());
+            assert!(is_late(one.take()).await, "a second log is looked at");
+            drop(held);
+            one.pause().until = Some(Instant::now() + FORGIVEN_AFTER);
+            assert!(is_late(one.take()).await, "nothing waits after a refusal");
+            drop(other.take().await.expect("a turn"));
+            one.pause().until = Some(Instant::now());
+            drop(one.take().await.expect("a turn"));
+        });
     }
 }

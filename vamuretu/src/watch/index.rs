@@ -5,17 +5,19 @@
 
 use std::collections::BTreeMap;
 use std::io;
+use std::ops::Range;
 use std::path::Path;
 
 use rusqlite::{params, Connection, OpenFlags, OptionalExtension, Row, Transaction};
+use serde::{Deserialize, Serialize};
 use serde_json::{json, Value};
 
+use super::trust::BELIEVED;
+
 /// The version of the schema, and the mark of the program in the file.
-const VERSION: i32 = 1;
+pub const VERSION: i32 = 2;
 const APPLICATION: i32 = 0x564d_5254;
 const SCHEMA: &str = include_str!("schema.sql");
-/// What stands in front of the tables of archives.
-const OF_ARCHIVES: &str = "-- What `vamuretu archive` keeps.";
 /// How many different logs of one node and run are kept: two convict the node.
 pub const MOST_LOGS: usize = 2;
 
@@ -59,6 +61,8 @@ pub struct Run {
     pub file: Option<File>,
     pub library: String,
     pub judged: i64,
+    /// The node that each general is.
+    pub nodes: Vec<u32>,
 }
 
 /// The file of a bundle.
@@ -68,6 +72,53 @@ pub struct File {
     pub sha256: String,
     pub bytes: usize,
     pub stored: usize,
+}
+
+/// What a row of `changes` says.
+#[derive(Debug, Clone, PartialEq, Eq, Serialize, Deserialize)]
+#[serde(deny_unknown_fields)]
+pub struct Change {
+    pub verdict: String,
+    pub value: Option<u32>,
+    pub listed: Vec<u32>,
+    pub missing: Vec<u32>,
+    pub path: Option<String>,
+    pub sha256: Option<String>,
+    pub library: String,
+    pub judged: i64,
+}
+
+impl From<&Run> for Change {
+    fn from(run: &Run) -> Change {
+        Change {
+            verdict: run.verdict.clone(),
+            value: run.value,
+            listed: run.listed.clone(),
+            missing: run.missing.clone(),
+            path: run.file.as_ref().map(|it| it.path.clone()),
+            sha256: run.file.as_ref().map(|it| it.sha256.clone()),
+            library: run.library.clone(),
+            judged: run.judged,
+        }
+    }
+}
+
+/// A file of a run, with the SHA-256 of its bytes on the disk; of evidence also against whom it is, and its kind.
+#[derive(Debug, Clone, PartialEq, Eq)]
+pub struct Stored {
+    pub path: String,
+    pub sha256: String,
+    pub evidence: Option<(u32, String)>,
+}
+
+/// The runs that the index lacked, as far as they were taken in again.
+#[derive(Debug, Clone, Copy, PartialEq, Eq)]
+pub struct Rebuilt {
+    pub place: i64,
+    pub runs: u64,
+    pub convictions: u64,
+    /// The first number above all of them.
+    pub below: u32,
 }
 
 /// A conviction, with the file of the evidence.
@@ -126,6 +177,7 @@ fn run_of(row: &Row) -> Asked<Run> {
         file,
         library: row.get("library")?,
         judged: row.get("judged")?,
+        nodes: list(row, "nodes")?,
     })
 }
 
@@ -139,13 +191,25 @@ pub fn refused(path: &Path, said: &str) -> io::Error {
     io::Error::new(io::ErrorKind::InvalidData, format!("{} has {said}", path.display()))
 }
 
+/// What to do with an index that can't be read.
+const ANEW: &str = "Move it away and start again: it is made anew of the files that were judged";
+
+/// As `failed`, of an index that is opened: one that is no database, or that is damaged, is refused.
+fn unreadable(path: &Path) -> impl Fn(rusqlite::Error) -> io::Error + '_ {
+    use rusqlite::ErrorCode::{DatabaseCorrupt, NotADatabase};
+    |told| match told.sqlite_error_code() {
+        Some(NotADatabase | DatabaseCorrupt) => refused(path, &format!("a fault: {told}. {ANEW}")),
+        _ => failed(told),
+    }
+}
+
 /// Opens an index for writing, and makes it for a system if there is none. Tells the system that it is of, and how many
 /// nodes that has.
 pub fn connect(path: &Path, system: &str, nodes: u32) -> io::Result<(Connection, String, u32)> {
     let mut database = Connection::open(path).map_err(failed)?;
-    let version = prepare(&mut database, system, nodes).map_err(failed)?;
+    let version = prepare(&mut database, system, nodes).map_err(unreadable(path))?;
     if version != VERSION {
-        return Err(refused(path, &format!("version {version} of its tables, and not {VERSION}")));
+        return Err(refused(path, &format!("version {version} of its tables, and not {VERSION}. {ANEW}")));
     }
     let row = database.query_row("SELECT id, nodes FROM system", [], |row| Ok((row.get(0)?, row.get(1)?)));
     let (id, count) = row.map_err(failed)?;
@@ -174,19 +238,16 @@ fn prepare(database: &mut Connection, system: &str, nodes: u32) -> Asked<i32> {
     Ok(VERSION)
 }
 
-/// Opens an index for reading, also one that lacks the tables of archives.
+/// Opens a database for reading.
 pub fn connect_to_read(path: &Path) -> io::Result<Connection> {
     let flags = OpenFlags::SQLITE_OPEN_READ_ONLY | OpenFlags::SQLITE_OPEN_NO_MUTEX;
-    let database = Connection::open_with_flags(path, flags).map_err(failed)?;
-    let version: i32 = database.pragma_query_value(None, "user_version", |row| row.get(0)).map_err(failed)?;
-    if version != VERSION {
-        return Err(refused(path, &format!("version {version} of its tables, and not {VERSION}")));
-    }
-    let lacking = "SELECT count(*) = 0 FROM sqlite_schema WHERE name = 'files'";
-    if database.query_row(lacking, [], |row| row.get(0)).map_err(failed)? {
-        let archive = SCHEMA.split_once(OF_ARCHIVES).map_or("", |(_, behind)| behind);
-        database.execute_batch(&archive.replace("IF NOT EXISTS ", "IF NOT EXISTS temp.")).map_err(failed)?;
-    }
+    Connection::open_with_flags(path, flags).map_err(failed)
+}
+
+/// An index without rows, in memory.
+pub fn tables() -> Asked<Connection> {
+    let database = Connection::open_in_memory()?;
+    database.execute_batch(SCHEMA)?;
     Ok(database)
 }
 
@@ -197,7 +258,12 @@ impl Index {
         if (id.as_str(), count) != (system, nodes) {
             return Err(refused(path, &format!("an index of the system {id}, and not {system}")));
         }
-        Ok(Index { database })
+        let told: String =
+            database.query_row("PRAGMA quick_check(1)", [], |row| row.get(0)).map_err(unreadable(path))?;
+        match told.as_str() {
+            "ok" => Ok(Index { database }),
+            fault => Err(refused(path, &format!("a fault: {fault}. {ANEW}"))),
+        }
     }
 
     /// Does several things in one transaction, which is on the disk when this ends.
@@ -215,7 +281,7 @@ impl Index {
 
     /// Who is convicted in a run.
     pub fn convicted(&self, number: u32) -> Asked<Vec<Convicted>> {
-        let order = "SELECT node, kind, path FROM convictions WHERE number = ? ORDER BY node";
+        let order = "SELECT node, kind, path FROM convictions WHERE number = ? ORDER BY node, kind";
         let mut asked = self.database.prepare_cached(order)?;
         let all = asked
             .query_map([number], |row| Ok(Convicted { node: row.get(0)?, kind: row.get(1)?, path: row.get(2)? }))?;
@@ -232,20 +298,43 @@ impl Index {
         logs.collect()
     }
 
-    /// The nodes of which a log of a run waits.
-    pub fn waiting_nodes(&self, number: u32) -> Asked<Vec<u32>> {
-        let order = "SELECT DISTINCT node FROM waiting WHERE number = ? ORDER BY node";
+    /// What was judged of a run before, the first judgement first.
+    pub fn changes(&self, number: u32) -> Asked<Vec<Change>> {
+        let order = "SELECT * FROM changes WHERE number = ? ORDER BY place";
         let mut asked = self.database.prepare_cached(order)?;
-        let nodes = asked.query_map([number], |row| row.get(0))?;
-        nodes.collect()
+        let changes = asked.query_map([number], |row| {
+            Ok(Change {
+                verdict: row.get("verdict")?,
+                value: row.get("value")?,
+                listed: list(row, "listed")?,
+                missing: list(row, "missing")?,
+                path: row.get("path")?,
+                sha256: row.get("sha256")?,
+                library: row.get("library")?,
+                judged: row.get("judged")?,
+            })
+        })?;
+        changes.collect()
     }
 
-    /// The runs for which logs wait, each with how many nodes they are of.
+    /// Of how many nodes a log of a run has come.
+    pub fn nodes(&self, number: u32) -> Asked<u32> {
+        let order = "SELECT count(DISTINCT node) FROM logs WHERE number = ?";
+        self.database.prepare_cached(order)?.query_row([number], |row| row.get(0))
+    }
+
+    /// The runs for which logs wait, each with how many nodes have sent one.
     pub fn begun(&self) -> Asked<BTreeMap<u32, u32>> {
-        let order = "SELECT number, count(DISTINCT node) FROM waiting GROUP BY number";
+        let order = "SELECT number, count(DISTINCT node) FROM logs WHERE number IN (SELECT number FROM waiting)
+            GROUP BY number";
         let mut asked = self.database.prepare(order)?;
         let runs = asked.query_map([], |row| Ok((row.get(0)?, row.get(1)?)))?;
         runs.collect()
+    }
+
+    /// What the newest alarm of the clock says.
+    pub fn clock_said(&self) -> Asked<Option<String>> {
+        clock_said(&self.database)
     }
 
     /// The runs from one number on that were judged.
@@ -253,6 +342,53 @@ impl Index {
         let mut asked = self.database.prepare("SELECT number FROM runs WHERE number >= ? ORDER BY number")?;
         let numbers = asked.query_map([from], |row| row.get(0))?;
         numbers.collect()
+    }
+
+    /// The bundles that some runs have, by their numbers: none of a gap.
+    pub fn bundles(&self, numbers: Range<u32>) -> Asked<BTreeMap<u32, Option<String>>> {
+        let order = "SELECT number, path FROM runs WHERE number >= ? AND number < ?";
+        let mut asked = self.database.prepare_cached(order)?;
+        let rows = asked.query_map([numbers.start, numbers.end], |row| Ok((row.get(0)?, row.get(1)?)))?;
+        rows.collect()
+    }
+
+    /// Whether no run was judged.
+    pub fn is_empty(&self) -> Asked<bool> {
+        self.database.query_row("SELECT count(*) = 0 FROM (SELECT 1 FROM runs LIMIT 1)", [], |row| row.get(0))
+    }
+
+    /// How many of some runs were judged by logs.
+    pub fn with_logs(&self, numbers: Range<u32>) -> Asked<u32> {
+        let order = "SELECT count(*) FROM runs WHERE number >= ? AND number < ? AND path IS NOT NULL";
+        self.database.query_row(order, [numbers.start, numbers.end], |row| row.get(0))
+    }
+
+    /// The runs of the greatest numbers, these first, with the nodes without a log.
+    pub fn missing_last(&self, most: u32) -> Asked<Vec<(u32, Vec<u32>)>> {
+        let mut asked = self.database.prepare("SELECT number, missing FROM runs ORDER BY number DESC LIMIT ?")?;
+        let rows = asked.query_map([most], |row| Ok((row.get(0)?, list(row, "missing")?)))?;
+        rows.collect()
+    }
+
+    /// What was taken in again and is not all yet.
+    pub fn rebuilding(&self) -> Asked<Option<Rebuilt>> {
+        let order = "SELECT place, runs, convictions, below FROM rebuilt WHERE ended IS NULL ORDER BY place LIMIT 1";
+        let of = |row: &Row| {
+            let (place, runs, convictions) = (row.get(0)?, row.get(1)?, row.get(2)?);
+            Ok(Rebuilt { place, runs, convictions, below: row.get(3)? })
+        };
+        self.database.query_row(order, [], of).optional()
+    }
+
+    /// The first number above all runs that were ever taken in again.
+    pub fn rebuilt_below(&self) -> Asked<u32> {
+        self.database.query_row("SELECT coalesce(max(below), 0) FROM rebuilt", [], |row| row.get(0))
+    }
+
+    /// The place of the last alarm of a kind that was raised of a run.
+    pub fn raised(&self, number: u32, kind: &str) -> Asked<Option<i64>> {
+        let order = "SELECT max(place) FROM alarms WHERE number = ? AND kind = ?";
+        self.database.prepare_cached(order)?.query_row(params![number, kind], |row| row.get(0))
     }
 
     /// The paths of the bundles that were replaced last.
@@ -273,6 +409,12 @@ impl Index {
     }
 }
 
+/// What the newest alarm of the clock says.
+fn clock_said(database: &Connection) -> Asked<Option<String>> {
+    let order = "SELECT json_extract(alarm, '$.said') FROM alarms WHERE kind = 'clock' ORDER BY place DESC LIMIT 1";
+    database.query_row(order, [], |row| row.get(0)).optional()
+}
+
 /// What an index has, which a watcher may be writing at the same time.
 pub fn status(path: &Path) -> io::Result<Value> {
     let tell = || -> Asked<Value> {
@@ -287,10 +429,12 @@ pub fn status(path: &Path) -> io::Result<Value> {
             "changes": count("SELECT count(*) FROM changes")?,
             "convicted": convicted.collect::<Asked<Vec<u32>>>()?,
             "newest": count("SELECT max(number) FROM runs")?,
+            "rebuilding": count("SELECT count(*) FROM rebuilt WHERE ended IS NULL")? != Some(0),
             "system": database.query_row("SELECT id FROM system", [], |row| row.get::<_, String>(0))?,
             "untold": count("SELECT count(*) FROM alarms WHERE told IS NULL")?,
             "verdicts": verdicts.collect::<Asked<BTreeMap<String, i64>>>()?,
             "waiting": count("SELECT count(DISTINCT number) FROM waiting")?,
+            "waits_for": clock_said(&database)?.filter(|said| said != BELIEVED),
         }))
     };
     tell().map_err(failed)
@@ -323,16 +467,41 @@ impl Part<'_> {
 
     /// Writes down what was judged of a run by these logs, of which those that wait are dropped, and each value that a log
     /// decides. What was judged before moves to `changes`.
-    pub fn judged(&self, run: &Run, logs: &[(&Log, Option<u32>)], convicted: &[Convicted]) -> Asked<()> {
+    pub fn judged(
+        &self,
+        run: &Run,
+        logs: &[(&Log, Option<u32>)],
+        convicted: &[Convicted],
+        stored: &[Stored],
+    ) -> Asked<()> {
         let number = run.number;
         self.0.execute(
             "INSERT INTO changes (number, verdict, value, listed, missing, path, sha256, library, judged)
              SELECT number, verdict, value, listed, missing, path, sha256, library, judged FROM runs WHERE number = ?",
             [number],
         )?;
-        let file = run.file.as_ref();
+        self.put_run(run)?;
+        for (log, decided) in logs {
+            let of = params![number, log.node, log.sha256];
+            self.0.execute("DELETE FROM waiting WHERE number = ? AND node = ? AND sha256 = ?", of)?;
+            self.0.execute(
+                "INSERT INTO logs (number, node, sha256, bytes, decided, came) VALUES (?, ?, ?, ?, ?, ?)
+                 ON CONFLICT DO UPDATE SET decided = excluded.decided",
+                params![number, log.node, log.sha256, log.bytes.len(), decided, run.judged],
+            )?;
+        }
+        for it in convicted {
+            let row = params![number, it.node, it.kind, it.path];
+            self.0.execute("INSERT OR REPLACE INTO convictions VALUES (?, ?, ?, ?)", row)?;
+        }
+        self.stored(number, stored)
+    }
+
+    /// Writes the row of a run.
+    fn put_run(&self, run: &Run) -> Asked<()> {
+        let (number, file) = (run.number, run.file.as_ref());
         self.0.execute(
-            "INSERT OR REPLACE INTO runs VALUES (?, ?, ?, ?, ?, ?, ?, ?, ?, ?, ?, ?, ?)",
+            "INSERT OR REPLACE INTO runs VALUES (?, ?, ?, ?, ?, ?, ?, ?, ?, ?, ?, ?, ?, ?)",
             params![
                 number,
                 run.run_id,
@@ -347,20 +516,55 @@ impl Part<'_> {
                 file.map(|it| it.stored),
                 run.library,
                 run.judged,
+                text(&run.nodes),
             ],
         )?;
-        for (log, decided) in logs {
-            let of = params![number, log.node, log.sha256];
-            self.0.execute("DELETE FROM waiting WHERE number = ? AND node = ? AND sha256 = ?", of)?;
+        Ok(())
+    }
+
+    /// Writes down what was judged of a run before, as its files tell it.
+    pub fn put_changes(&self, number: u32, changes: &[Change]) -> Asked<()> {
+        self.0.execute("DELETE FROM changes WHERE number = ?", [number])?;
+        for it in changes {
+            let (listed, missing) = (text(&it.listed), text(&it.missing));
+            let row = params![number, it.verdict, it.value, listed, missing, it.path, it.sha256, it.library, it.judged];
             self.0.execute(
-                "UPDATE logs SET decided = ? WHERE number = ? AND node = ? AND sha256 = ?",
-                params![decided, number, log.node, log.sha256],
+                "INSERT INTO changes (number, verdict, value, listed, missing, path, sha256, library, judged)
+                 VALUES (?, ?, ?, ?, ?, ?, ?, ?, ?)",
+                row,
             )?;
         }
-        for it in convicted {
-            let row = params![number, it.node, it.kind, it.path];
-            self.0.execute("INSERT OR REPLACE INTO convictions VALUES (?, ?, ?, ?)", row)?;
+        Ok(())
+    }
+
+    /// Writes down the files of a run, in the place of those before but for evidence.
+    fn stored(&self, number: u32, stored: &[Stored]) -> Asked<()> {
+        self.0.execute("DELETE FROM stored WHERE number = ? AND kind IS NULL", [number])?;
+        for Stored { path, sha256, evidence } in stored {
+            let (node, kind) = (evidence.as_ref().map(|it| it.0), evidence.as_ref().map(|it| &it.1));
+            let row = params![path, number, sha256, node, kind];
+            self.0.execute("INSERT OR REPLACE INTO stored VALUES (?, ?, ?, ?, ?)", row)?;
         }
+        Ok(())
+    }
+
+    /// Begins to take runs in again, up to a number. Tells the place.
+    pub fn begin_rebuilding(&self, below: u32, now: i64) -> Asked<i64> {
+        let order = "INSERT INTO rebuilt (runs, convictions, below, began) VALUES (0, 0, ?, ?)";
+        self.0.execute(order, params![below, now])?;
+        Ok(self.0.last_insert_rowid())
+    }
+
+    /// Adds to what was taken in again.
+    pub fn add_rebuilt(&self, more: &Rebuilt) -> Asked<()> {
+        let order =
+            "UPDATE rebuilt SET runs = runs + ?, convictions = convictions + ?, below = max(below, ?) WHERE place = ?";
+        self.0.execute(order, params![more.runs, more.convictions, more.below, more.place])?;
+        Ok(())
+    }
+
+    pub fn end_rebuilding(&self, place: i64, now: i64) -> Asked<()> {
+        self.0.execute("UPDATE rebuilt SET ended = ? WHERE place = ?", params![now, place])?;
         Ok(())
     }
 
@@ -401,6 +605,7 @@ mod tests {
             file: (verdict != "gap").then_some(file),
             library: "1.2.3".to_owned(),
             judged: 7,
+            nodes: vec![3, 0, 1, 2],
         }
     }
 
@@ -427,14 +632,22 @@ mod tests {
         index.in_one(|part| part.keep(&log(3, 1, "x"), 1)).expect("memory");
         let convicted = [Convicted { node: 1, kind: "K1".to_owned(), path: "0/3.node-1.evidence".to_owned() }];
         let judged = run(3, "agreed", &[0, 2]);
-        index.in_one(|part| part.judged(&judged, &[(&log(3, 1, "x"), Some(1))], &convicted)).expect("memory");
+        let stored = ["0/3.bundle.zst", "0/3.node-1.evidence"].map(|path| Stored {
+            path: path.to_owned(),
+            sha256: "c".repeat(64),
+            evidence: path.ends_with("evidence").then(|| (1, "K1".to_owned())),
+        });
+        index.in_one(|part| part.judged(&judged, &[(&log(3, 1, "x"), Some(1))], &convicted, &stored)).expect("memory");
         assert_eq!(
             (index.run(3).expect("a row"), index.convicted(3).expect("rows")),
             (Some(judged), convicted.to_vec())
         );
         assert_eq!((index.waiting(3).expect("logs"), index.judged(0).expect("numbers")), (vec![], vec![3]));
         assert_eq!(index.in_one(|part| part.keep(&log(3, 1, "x"), 1)).expect("memory"), Kept::Known);
-        index.in_one(|part| part.judged(&run(3, "no", &[0]), &[], &[])).expect("memory");
+        index.in_one(|part| part.judged(&run(3, "no", &[0]), &[], &[], &[])).expect("memory");
+        let order = "SELECT group_concat(path || ' ' || kind) FROM stored";
+        let kept: String = index.database.query_row(order, [], |row| row.get(0)).expect("evidence");
+        assert_eq!(kept, "0/3.node-1.evidence K1");
         let was: (String, String) = index
             .database
             .query_row("SELECT verdict, missing FROM changes WHERE number = 3", [], |row| {
@@ -442,10 +655,17 @@ mod tests {
             })
             .expect("a change");
         assert_eq!(was, ("agreed".to_owned(), "[0,2]".to_owned()));
+        let changes = index.changes(3).expect("changes");
+        assert_eq!(changes, [Change::from(&run(3, "agreed", &[0, 2]))]);
+        let two = [Change { verdict: "gap".to_owned(), ..changes[0].clone() }, changes[0].clone()];
+        index.in_one(|part| part.put_changes(3, &two)).expect("memory");
+        assert_eq!(index.changes(3).expect("changes"), two);
+        let text = serde_json::to_string(&two).expect("JSON");
+        assert_eq!(serde_json::from_str::<Vec<Change>>(&text).expect("JSON"), two);
         assert_eq!(index.replaced(9).expect("paths"), Vec::<String>::new());
-        index.in_one(|part| part.judged(&run(3, "gap", &[0]), &[], &[])).expect("memory");
+        index.in_one(|part| part.judged(&run(3, "gap", &[0]), &[], &[], &[])).expect("memory");
         assert_eq!(index.replaced(1).expect("paths"), ["0/3.bundle.zst"]);
-        index.in_one(|part| part.judged(&run(4, "gap", &[0, 1, 2, 3]), &[], &[])).expect("memory");
+        index.in_one(|part| part.judged(&run(4, "gap", &[0, 1, 2, 3]), &[], &[], &[])).expect("memory");
         assert_eq!(index.run(4).expect("a row").expect("a row").file, None);
     }
 
@@ -454,7 +674,7 @@ mod tests {
         let mut index = memory();
         let told = index.in_one(|part| {
             part.keep(&log(3, 1, "x"), 1)?;
-            part.judged(&run(3, "another word", &[]), &[], &[])
+            part.judged(&run(3, "another word", &[]), &[], &[], &[])
         });
         assert!(told.is_err() && index.waiting(3).expect("logs").is_empty());
     }

@@ -195,6 +195,21 @@ pub fn is_sealed(header: &Header, general: u32, log: &[u8]) -> Result<bool, Faul
     vamuretu::receipt(Some(&run), general, alone.as_bytes()).map(|found| found.is_some())
 }
 
+/// What evidence says of itself.
+#[derive(Deserialize)]
+struct Accusation {
+    accused: u32,
+    kind: String,
+    holds: bool,
+}
+
+/// Whom evidence of a run convicts, and of what kind it is, if it holds.
+pub fn accused(run: &RunId, evidence: &[u8]) -> io::Result<Option<(u32, String)>> {
+    let json = vamuretu::evidence_json(Some(run), evidence).map_err(other)?;
+    let Accusation { accused, kind, holds } = serde_json::from_str(&json)?;
+    Ok(holds.then_some((accused, kind)))
+}
+
 /// The logs of a bundle, by the places that `show` tells.
 pub fn logs_of(run: &RunId, bundle: &[u8]) -> io::Result<Vec<(u32, Vec<u8>)>> {
     let shown = vamuretu::show_json(&[*run], bundle).map_err(other)?;
@@ -314,6 +329,8 @@ mod tests {
         let [(conviction, evidence)] = &told.evidence[..] else { panic!("one conviction") };
         assert_eq!((conviction.general, conviction.kind), (0, 2));
         assert_eq!(vamuretu::evidence_of(Some(&told.verdict.run_id), evidence), Ok(true));
+        assert_eq!(accused(&told.verdict.run_id, evidence).expect("evidence"), Some((0, "K2".to_owned())));
+        assert!(accused(&[0; 32], evidence).is_err() && accused(&told.verdict.run_id, &evidence[1..]).is_err());
     }
 
     #[test]

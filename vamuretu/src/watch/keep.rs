@@ -15,24 +15,33 @@ use std::time::{Duration, Instant};
 
 use sd_notify::NotifyState;
 
-use super::index::{self, Convicted, Index, Kept, Log, Raised, Run};
+use super::index::{self, Change, Convicted, Index, Kept, Log, Raised, Run, Stored};
 use super::judge::{self, Judged};
+use super::presence::{Presence, DOWN_AFTER};
+use super::rebuild::{self, Found, Rebuild};
+use super::trust::Trust;
 use super::{alarms, Counts};
+use crate::clock::{self, Guard, Look};
 use crate::config::WatchFile;
 use crate::systems::{self, Systems};
-use crate::{clock, disk, End};
+use crate::{disk, End};
 
 /// How many logs go into one transaction, how many runs are judged at a time, and how many alarms are told at a time.
 const MOST_AT_ONCE: usize = 64;
-const MOST_RUNS: usize = 8;
+pub const MOST_RUNS: usize = 8;
 const MOST_ALARMS: u32 = 16;
 /// How many runs are remembered with their headers.
 const MOST_HEADERS: usize = 64;
 /// How many runs have a folder together.
-const TOGETHER: u32 = 1000;
+pub const TOGETHER: u32 = 1000;
 /// What the names of files end with: those of a bundle and of a verdict.
-const BUNDLE: &str = ".bundle.zst";
-const VERDICT: &str = ".verdict.json";
+pub const BUNDLE: &str = ".bundle.zst";
+pub const VERDICT: &str = ".verdict.json";
+/// What the name of the file ends with that tells what was judged of a run before.
+pub const EARLIER: &str = ".earlier.json";
+/// How many logs of each node a bundle has at most, where some wait beside it, and what stands in front of them.
+const MOST_LOGS: usize = 2 * index::MOST_LOGS;
+const FRONT_OF_BUNDLE: usize = 1 << 20;
 /// Who may read these files.
 const MODE: u32 = 0o644;
 /// How long the thread waits for something to do, and how long where the disk took nothing; how long until a run that could
@@ -67,11 +76,13 @@ impl Runs {
 
     /// A run of the system, by its number.
     pub fn get(&self, number: u32) -> Result<Arc<systems::Run>, End> {
-        let mut newest = self.newest.lock().unwrap_or_else(|told| told.into_inner());
-        if let Some(run) = newest.iter().find(|it| it.number == number) {
+        let newest = || self.newest.lock().unwrap_or_else(|told| told.into_inner());
+        if let Some(run) = newest().iter().find(|it| it.number == number) {
             return Ok(run.clone());
         }
+        // Nobody waits while another run is made.
         let run = Arc::new(self.systems.run(number)?);
+        let mut newest = newest();
         if newest.len() == MOST_HEADERS {
             newest.pop_front();
         }
@@ -109,27 +120,36 @@ impl Times {
 }
 
 /// A run with the logs that it is judged by, and what was judged of it before.
-struct Case {
-    run: Arc<systems::Run>,
+pub struct Case {
+    pub run: Arc<systems::Run>,
     /// Each log with the number that its node has in the run, ascending by that and by the digest.
-    logs: Vec<(u32, Log)>,
+    pub logs: Vec<(u32, Log)>,
     before: Option<Run>,
     convicted: Vec<Convicted>,
+    /// What lay in the folder and was not in the index.
+    found: Found,
 }
 
-/// The row of a run, with its convictions.
-type Row = (Run, Vec<Convicted>);
+/// A run for which logs wait: of how many nodes a log has come, and when the last one came.
+struct Open {
+    nodes: u32,
+    since: Instant,
+}
+
+/// The row of a run, with its convictions and its files.
+type Row = (Run, Vec<Convicted>, Vec<Stored>);
 
 /// The thread's own.
 pub struct Keeper {
     pub index: Index,
     pub runs: Arc<Runs>,
     pub times: Times,
+    trust: Trust,
     pub folder: PathBuf,
     pub counts: Arc<Counts>,
     pub to_tell: SyncSender<index::Alarm>,
-    /// For which runs logs wait, and of how many nodes.
-    open: BTreeMap<u32, u32>,
+    /// For which runs logs wait.
+    open: BTreeMap<u32, Open>,
     /// The least number of a run that was not judged, and the greater ones that were.
     next: u32,
     judged: BTreeSet<u32>,
@@ -139,10 +159,14 @@ pub struct Keeper {
     /// Runs that could not be judged, and when that was; when such an alarm, or one of the disk, was raised.
     failed: BTreeMap<u32, Instant>,
     alarmed: Option<Instant>,
+    presence: Presence,
+    pub rebuild: Rebuild,
+    /// How many bytes a bundle has at most.
+    pub most_bundle: usize,
 }
 
 /// The error of a fault of the library, or of the system.
-fn wrong(told: impl std::fmt::Display) -> io::Error {
+pub fn wrong(told: impl std::fmt::Display) -> io::Error {
     io::Error::new(io::ErrorKind::Other, told.to_string())
 }
 
@@ -162,11 +186,16 @@ pub fn make_folder(path: &Path) -> io::Result<()> {
 /// What the names of the files of a run begin with: its number and the digest of its bundle, so that what was judged before
 /// stays until the index names what was judged now.
 fn stem(number: u32, sha256: &str) -> String {
-    format!("{number}-{}", sha256.get(..8).unwrap_or_default())
+    format!("{:07}/{number}-{}", number / TOGETHER, sha256.get(..8).unwrap_or_default())
+}
+
+/// The path of a bundle.
+pub fn bundle_path(number: u32, sha256: &str) -> String {
+    format!("{}{BUNDLE}", stem(number, sha256))
 }
 
 /// What the name of evidence against a node ends with.
-fn evidence_of(node: u32) -> String {
+pub fn evidence_of(node: u32) -> String {
     format!(".node-{node}.evidence")
 }
 
@@ -178,54 +207,45 @@ impl Keeper {
         times: Times,
         counts: Arc<Counts>,
         to_tell: SyncSender<index::Alarm>,
+        guard: Arc<Guard>,
+        longest: usize,
     ) -> io::Result<Keeper> {
         let folder = file.watch.folder.clone();
         make_folder(&folder)?;
         let index = Index::open(&file.watch.database, &hex::encode(file.system.id), runs.systems.nodes())?;
-        let open = index.begun().map_err(index::failed)?;
-        let (mut next, mut judged) = (file.watch.first, BTreeSet::new());
-        for number in index.judged(next).map_err(index::failed)? {
-            if number == next {
-                next += 1;
-            } else {
-                judged.insert(number);
-            }
+        let (next, judged) = judged_by(&index, file.watch.first)?;
+        let rebuild = Rebuild::begin(&folder, &index, file.watch.first)?;
+        let mut keeper = Keeper {
+            open: open_by(&index)?,
+            trust: Trust::new(guard, index.clock_said().map_err(index::failed)?),
+            presence: presence_by(&index, runs.systems.nodes())?,
+            most_bundle: MOST_LOGS * runs.systems.nodes() as usize * longest + FRONT_OF_BUNDLE,
+            index,
+            runs,
+            times,
+            folder,
+            counts,
+            to_tell,
+            next,
+            judged,
+            rebuild,
+            telling: 0,
+            told: vec![],
+            failed: BTreeMap::new(),
+            alarmed: None,
+        };
+        // What a crash has left of those that were replaced last.
+        for path in keeper.index.replaced(MOST_RUNS).map_err(index::failed)? {
+            keeper.remove(&path);
         }
-        let (telling, told, failed, alarmed) = (0, vec![], BTreeMap::new(), None);
-        let keeper =
-            Keeper { index, runs, times, folder, counts, to_tell, open, next, judged, telling, told, failed, alarmed };
-        keeper.tidy()?;
+        keeper.check_bundles()?;
         Ok(keeper)
     }
 
-    /// Takes away what a crash has left: the files of runs that wait to be judged, if the index does not name them, and
-    /// those that were replaced last.
-    fn tidy(&self) -> io::Result<()> {
-        for path in self.index.replaced(MOST_RUNS).map_err(index::failed)? {
-            self.remove(&path);
-        }
-        for below in self.open.keys().map(|number| number / TOGETHER).collect::<BTreeSet<u32>>() {
-            let Ok(files) = fs::read_dir(self.folder.join(format!("{below:07}"))) else { continue };
-            for file in files {
-                let (path, name) = file.map(|it| (it.path(), it.file_name().to_string_lossy().into_owned()))?;
-                let number = name.split('-').next().and_then(|it| it.parse().ok());
-                let Some(number) = number.filter(|number| self.open.contains_key(number)) else { continue };
-                let kept = self.index.run(number).map_err(index::failed)?.and_then(|run| run.file);
-                let is_kept =
-                    |file: index::File| name.starts_with(&stem(number, &file.sha256)) && !name.ends_with(disk::NEW);
-                if !kept.map_or(false, is_kept) {
-                    fs::remove_file(path)?;
-                }
-            }
-        }
-        Ok(())
-    }
-
-    /// Takes away the files of a bundle that was replaced.
+    /// Takes away a bundle that was replaced, and the verdict on it. Evidence stays, as an alarm has named it.
     fn remove(&self, path: &str) {
         let stem = path.trim_end_matches(BUNDLE);
-        let evidence = (0..self.runs.systems.nodes()).map(evidence_of);
-        for end in evidence.chain([BUNDLE.into(), VERDICT.into()]) {
+        for end in [BUNDLE, VERDICT, EARLIER] {
             let _ = fs::remove_file(self.folder.join(format!("{stem}{end}")));
         }
     }
@@ -236,13 +256,14 @@ impl Keeper {
         let mut wait = IDLE;
         while !stop.load(Ordering::Relaxed) {
             let Some(batch) = next_jobs(jobs, wait) else { return };
-            let done = self.take(batch).and_then(|()| self.judge_some());
-            wait = if matches!(done, Ok(MOST_RUNS)) { Duration::ZERO } else { IDLE };
+            let done = self.take(batch).and_then(|()| self.rebuild_some()).and_then(|()| self.judge_some());
+            wait = if matches!(done, Ok(MOST_RUNS)) || !self.rebuild.is_over() { Duration::ZERO } else { IDLE };
             if let Err(told) = done.and_then(|_| self.tell_some()) {
                 self.cannot_keep(&told);
             }
             self.counts.open.set(self.open.len() as i64);
             self.counts.next.set(self.next.into());
+            self.presence.tell(&self.counts.silent);
             if alive.elapsed() > Duration::from_millis(500) {
                 alive = Instant::now();
                 let _ = sd_notify::notify(false, &[NotifyState::Watchdog]);
@@ -317,11 +338,8 @@ impl Keeper {
 
     /// A log waits now.
     fn opened(&mut self, log: &Log, now: i64) {
-        let nodes: BTreeSet<u32> = match self.index.waiting_nodes(log.number) {
-            Ok(nodes) => nodes.into_iter().collect(),
-            Err(_) => BTreeSet::from([log.node]),
-        };
-        self.open.insert(log.number, nodes.len() as u32);
+        let nodes = self.index.nodes(log.number).unwrap_or(1);
+        self.open.insert(log.number, Open { nodes, since: Instant::now() });
         if self.times.end(log.number) < self.times.started {
             self.times.last_old = now;
         }
@@ -331,26 +349,55 @@ impl Keeper {
         number < self.next || self.judged.contains(&number)
     }
 
-    /// The next runs to be judged: those of which all logs are there, those that were judged before and have another log
-    /// now, and those that are due.
-    fn ready(&self, now: i64) -> Vec<u32> {
-        let nodes = self.runs.systems.nodes();
-        let may = |number: &u32| self.failed.get(number).map_or(true, |last| last.elapsed() >= TRIED_AGAIN);
-        let whole = self.open.iter().filter(|(&number, &count)| count == nodes || self.is_judged(number));
-        let whole = whole.map(|(&number, _)| number).filter(may);
+    /// Looks at the clock, and raises an alarm where it is believed no more, or again. The watcher has started when it was right
+    /// for the first time.
+    fn look(&mut self) -> io::Result<Look> {
+        let (look, alarm) = self.trust.look(&self.counts);
+        if self.trust.begins(&look) {
+            (self.times.started, self.times.last_old) = (look.now_ms, look.now_ms);
+        }
+        if let Some(alarm) = alarm {
+            self.index.in_one(|part| part.raise(&alarm, look.now_ms)).map_err(index::failed)?;
+            self.counts.alarms.with_label_values(&[alarm.kind]).inc();
+            self.trust.is_raised(&alarm);
+        }
+        Ok(look)
+    }
+
+    /// The next runs to be judged: those of which all logs are there, while the clock is believed those that are due, and those
+    /// that were judged before, or are below the first one that is watched, where no further log has come for a while.
+    fn ready(&self, look: &Look) -> Vec<u32> {
+        let (nodes, wait) = (self.runs.systems.nodes(), Duration::from_millis(self.times.deadline_ms.into()));
+        let tried = |number: &u32| self.failed.get(number).map_or(true, |last| last.elapsed() >= TRIED_AGAIN);
+        let may = |number: &u32| tried(number) && !self.rebuild.holds(*number);
+        let is_whole =
+            |number, open: &Open| open.nodes == nodes || self.is_judged(number) && open.since.elapsed() >= wait;
+        let whole =
+            self.open.iter().filter(|(&number, open)| is_whole(number, open)).map(|(&number, _)| number).filter(may);
         let last = self.runs.systems.runs().min(u64::from(u32::MAX)) as u32;
-        let due = (self.next..last).take_while(|&number| self.times.due(number) <= now);
-        let due = due.filter(|&number| !self.is_judged(number)).filter(may);
-        let ready: BTreeSet<u32> = whole.take(MOST_RUNS).chain(due.take(MOST_RUNS)).collect();
+        let held = self.rebuild.held();
+        let free = (self.next..last.min(held.start)).chain(self.next.max(held.end)..last);
+        let is_due = |number| look.wrong.is_none() && self.times.due(number) <= look.now_ms;
+        let due = free.take_while(|&number| is_due(number));
+        let due: Vec<u32> = due.filter(|&number| !self.is_judged(number)).filter(may).take(MOST_RUNS).collect();
+        if !due.is_empty() {
+            self.trust.relied_on(look);
+        }
+        let ready: BTreeSet<u32> = whole.take(MOST_RUNS).chain(due).collect();
         ready.into_iter().take(MOST_RUNS).collect()
     }
 
     /// Judges the next runs, and tells how many these were.
     fn judge_some(&mut self) -> io::Result<usize> {
-        let now = clock::now_ms();
-        let ready = self.ready(now);
+        let look = self.look()?;
+        let (now, ready) = (look.now_ms, self.ready(&look));
+        self.judge_these(&ready, now).map(|()| ready.len())
+    }
+
+    /// Judges some runs.
+    pub fn judge_these(&mut self, ready: &[u32], now: i64) -> io::Result<()> {
         if ready.is_empty() {
-            return Ok(0);
+            return Ok(());
         }
         let cases: Vec<io::Result<Case>> = ready.iter().map(|&number| self.case(number)).collect();
         let begun = Instant::now();
@@ -360,25 +407,34 @@ impl Keeper {
         for (&number, judged) in ready.iter().zip(judged) {
             match judged {
                 Ok(judged) => whole.push(judged),
+                Err(told) if self.rebuild.is_lost(number) => {
+                    self.rebuild.cannot_read(number, &told);
+                    self.closed(number);
+                }
                 Err(told) => self.cannot_judge(number, &told),
             }
         }
         let rows = whole.iter().map(|(case, judged)| self.write(case, judged.as_ref(), now));
-        let rows = rows.collect::<io::Result<Vec<Row>>>()?;
-        self.put_down(&whole, &rows, now).map(|()| ready.len())
+        let rows = rows.collect::<io::Result<Vec<Row>>>().map_err(|told| {
+            whole.iter().for_each(|(case, judged)| self.forget(case, judged.as_ref()));
+            told
+        })?;
+        self.put_down(&whole, &rows, now)
     }
 
-    /// A run with its logs: those that wait, and those of the bundle that was made before.
-    fn case(&self, number: u32) -> io::Result<Case> {
+    /// A run with its logs: those that wait, those of the bundle that was made before, and those of bundles that lay in the
+    /// folder and are not in the index.
+    pub fn case(&self, number: u32) -> io::Result<Case> {
         let run = self.runs.get(number).map_err(wrong)?;
         let before = self.index.run(number).map_err(index::failed)?;
         let mut logs = self.index.waiting(number).map_err(index::failed)?;
-        if let Some(file) = before.as_ref().and_then(|it| it.file.as_ref()) {
-            let bundle = judge::unpack(&fs::read(self.folder.join(&file.path))?, file.bytes)?;
-            if judge::digest(&bundle) != file.sha256 {
-                return Err(wrong(format!("{} is not as it was kept", file.path)));
-            }
-            for (general, bytes) in judge::logs_of(&run.run_id, &bundle)? {
+        let mut found = self.rebuild.found(number);
+        let named = before.as_ref().and_then(|it| it.file.as_ref()).map(|it| &it.path);
+        // An older index may name a bundle that was replaced.
+        let named = named.filter(|path| found.bundles.is_empty() || self.folder.join(path).exists());
+        let named = named.filter(|path| !found.bundles.contains(path));
+        for path in named.into_iter().chain(&found.bundles) {
+            for (general, bytes) in judge::logs_of(&run.run_id, &self.bundle(number, path)?)? {
                 let node = *run.nodes.get(general as usize).ok_or_else(|| wrong("a log of no node"))?;
                 logs.push(Log { number, node, sha256: judge::digest(&bytes), bytes });
             }
@@ -387,68 +443,167 @@ impl Keeper {
         let mut logs = logs.into_iter().map(general).collect::<io::Result<Vec<_>>>()?;
         logs.sort();
         logs.dedup();
-        let convicted = self.index.convicted(number).map_err(index::failed)?;
-        Ok(Case { run, logs, before, convicted })
+        let mut convicted = self.index.convicted(number).map_err(index::failed)?;
+        convicted.extend(self.convicted_by(&run, &mut found, &convicted));
+        self.read_earlier(number, &mut found);
+        Ok(Case { run, logs, before, convicted, found })
+    }
+
+    /// The bundle of a file, by whose digest the file has its name.
+    pub fn bundle(&self, number: u32, path: &str) -> io::Result<Vec<u8>> {
+        let packed = rebuild::read(&self.folder.join(path), zstd::zstd_safe::compress_bound(self.most_bundle))?;
+        let bundle = judge::unpack(&packed, self.most_bundle)?;
+        match path == bundle_path(number, &judge::digest(&bundle)) {
+            true => Ok(bundle),
+            false => Err(wrong(format!("{path} is not as it was kept"))),
+        }
     }
 
     /// Writes the files of a run, and makes its row and its convictions.
     fn write(&self, case: &Case, judged: Option<&Judged>, now: i64) -> io::Result<Row> {
         let number = case.run.number;
         let mut row = row_of(case, judged, now);
-        let Some(judged) = judged else { return Ok((row, vec![])) };
-        let below = format!("{:07}", number / TOGETHER);
-        make_folder(&self.folder.join(&below))?;
-        let packed = judge::pack(&judged.bundle)?;
-        let stem = format!("{below}/{}", stem(number, &judged.sha256));
-        let path = format!("{stem}{BUNDLE}");
-        disk::put(&self.folder.join(&path), MODE, &packed)?;
-        disk::put(&self.folder.join(format!("{stem}{VERDICT}")), MODE, judged.json.as_bytes())?;
+        let Some(judged) = judged else { return Ok((row, vec![], vec![])) };
+        make_folder(&self.folder.join(format!("{:07}", number / TOGETHER)))?;
+        let stem = stem(number, &judged.sha256);
+        let (path, verdict) = (format!("{stem}{BUNDLE}"), format!("{stem}{VERDICT}"));
+        // A bundle that is there stays as it was compressed, so that its digest is as it was.
+        let there = case.found.bundles.contains(&path).then(|| fs::read(self.folder.join(&path))).transpose()?;
+        let is_same =
+            |packed: &Vec<u8>| judge::unpack(packed, judged.bundle.len()).map_or(false, |it| it == judged.bundle);
+        let packed = there.filter(is_same).map_or_else(|| judge::pack(&judged.bundle), Ok)?;
+        let mut files = vec![self.store(&path, &packed, None)?, self.store(&verdict, judged.json.as_bytes(), None)?];
+        files.extend(case.found.stored.iter().cloned());
+        let earlier = self.earlier(case)?;
+        if !earlier.is_empty() {
+            let text = serde_json::to_string(&earlier)?;
+            files.push(self.store(&format!("{stem}{EARLIER}"), text.as_bytes(), None)?);
+        }
         let (sha256, bytes, stored) = (judged.sha256.clone(), judged.bundle.len(), packed.len());
         row.file = Some(index::File { path, sha256, bytes, stored });
-        let mut convicted = vec![];
+        let mut convicted = case.convicted.clone();
         for (conviction, evidence) in &judged.evidence {
             let node = case.run.nodes[conviction.general as usize];
-            let path = format!("{stem}{}", evidence_of(node));
-            disk::put(&self.folder.join(&path), MODE, evidence)?;
-            convicted.push(Convicted { node, kind: format!("K{}", conviction.kind), path });
+            let (path, kind) = (format!("{stem}{}", evidence_of(node)), format!("K{}", conviction.kind));
+            // Evidence that an alarm has named stays that of its kind.
+            if convicted.iter().any(|it| (it.node, &it.kind) == (node, &kind)) {
+                continue;
+            }
+            files.push(self.store(&path, evidence, Some((node, kind.clone())))?);
+            convicted.push(Convicted { node, kind, path });
         }
-        convicted.sort_by_key(|it| it.node);
-        Ok((row, convicted))
+        convicted.sort_by(|one, other| (one.node, &one.kind).cmp(&(other.node, &other.kind)));
+        Ok((row, convicted, files))
+    }
+
+    /// What was judged of a run before.
+    fn earlier(&self, case: &Case) -> io::Result<Vec<Change>> {
+        if !case.found.earlier.is_empty() {
+            return Ok(case.found.earlier.clone());
+        }
+        let mut changes = self.index.changes(case.run.number).map_err(index::failed)?;
+        changes.extend(case.before.as_ref().map(Change::from));
+        Ok(changes)
+    }
+
+    /// Takes away what was written of a run and is not written down, unless it was there before.
+    fn forget(&self, case: &Case, judged: Option<&Judged>) {
+        let number = case.run.number;
+        let Some(judged) = judged else { return };
+        let (stem, path) = (stem(number, &judged.sha256), bundle_path(number, &judged.sha256));
+        let was = case.before.as_ref().and_then(|was| was.file.as_ref()).map(|file| &file.path);
+        if was == Some(&path) || case.found.bundles.contains(&path) {
+            return;
+        }
+        self.remove(&path);
+        for node in &case.run.nodes {
+            let _ = fs::remove_file(self.folder.join(format!("{stem}{}", evidence_of(*node))));
+        }
+    }
+
+    /// Writes a file, by its path in the folder, unless it has these bytes.
+    fn store(&self, path: &str, bytes: &[u8], evidence: Option<(u32, String)>) -> io::Result<Stored> {
+        let at = self.folder.join(path);
+        match File::open(&at) {
+            Ok(file) if fs::read(&at)? == bytes => file.sync_all()?,
+            _ => disk::put(&at, MODE, bytes)?,
+        }
+        Ok(Stored { path: path.to_owned(), sha256: judge::digest(bytes), evidence })
     }
 
     /// Writes down what was judged, and its alarms, in one transaction.
     fn put_down(&mut self, judged: &[(Case, Option<Judged>)], rows: &[Row], now: i64) -> io::Result<()> {
-        let mut raised = vec![];
-        for ((case, _), (row, convicted)) in judged.iter().zip(rows) {
-            let before = case.before.as_ref().map(|was| (was, &case.convicted[..]));
-            raised.extend(alarms::of(row, convicted, case.run.traitors as usize, before));
+        let (mut raised, mut presence) = (vec![], self.presence.clone());
+        for ((case, _), (row, convicted, _)) in judged.iter().zip(rows) {
+            raised.extend(self.alarms_of(case, row, convicted, &mut presence)?);
         }
+        let rebuilt = self.rebuild.rebuilt(rows.iter().map(|(row, convicted, _)| (row.number, convicted.len())));
         let told = self.index.in_one(|part| {
-            for ((case, judged), (row, convicted)) in judged.iter().zip(rows) {
+            for ((case, judged), (row, convicted, files)) in judged.iter().zip(rows) {
                 let decided = judged.as_ref().map_or(&[][..], |it| &it.decided[..]);
                 let logs: Vec<_> = case.logs.iter().map(|it| &it.1).zip(decided.iter().copied()).collect();
-                part.judged(row, &logs, convicted)?;
+                part.judged(row, &logs, convicted, files)?;
+                if !case.found.earlier.is_empty() {
+                    part.put_changes(row.number, &case.found.earlier)?;
+                }
             }
+            rebuilt.iter().try_for_each(|more| part.add_rebuilt(more))?;
             raised.iter().try_for_each(|it| part.raise(it, now))
         });
         told.map_err(index::failed)?;
-        for (row, convicted) in rows {
+        self.presence = presence;
+        for ((case, _), (row, convicted, _)) in judged.iter().zip(rows) {
             self.counts.runs.with_label_values(&[row.verdict.as_str()]).inc();
-            self.counts.convictions.inc_by(convicted.len() as u64);
+            self.counts.convictions.inc_by((convicted.len() - case.convicted.len().min(convicted.len())) as u64);
             if let Some(file) = &row.file {
                 self.counts.bytes.with_label_values(&["bundles"]).inc_by(file.bytes as u64);
                 self.counts.bytes.with_label_values(&["stored"]).inc_by(file.stored as u64);
             }
             self.closed(row.number);
         }
-        for ((case, _), (row, _)) in judged.iter().zip(rows) {
+        for ((case, _), (row, convicted, _)) in judged.iter().zip(rows) {
             let was = case.before.as_ref().and_then(|was| was.file.as_ref()).map(|file| &file.path);
-            if let Some(was) = was.filter(|was| row.file.as_ref().map_or(false, |file| file.path != **was)) {
-                self.remove(was);
-            }
+            let is_other = |was: &&String| row.file.as_ref().map_or(false, |file| file.path != **was);
+            was.into_iter().chain(&case.found.bundles).filter(is_other).for_each(|path| self.remove(path));
+            case.found.unnamed(convicted).for_each(|path| drop(fs::remove_file(self.folder.join(path))));
+            self.rebuild.done(row.number, &case.found);
         }
         raised.iter().for_each(|it| self.counts.alarms.with_label_values(&[it.kind]).inc());
         Ok(())
+    }
+
+    /// The alarms of a run that was judged. A run that the index lacked raises none, since it has raised them before.
+    fn alarms_of(
+        &self,
+        case: &Case,
+        row: &Run,
+        convicted: &[Convicted],
+        presence: &mut Presence,
+    ) -> io::Result<Vec<Raised>> {
+        if case.found.is_lost {
+            return Ok(vec![]);
+        }
+        let most = case.run.traitors as usize;
+        let before = case.before.as_ref().map(|was| (was, &case.convicted[..]));
+        let mut raised = alarms::of(row, convicted, most, before);
+        raised.retain(|it| it.kind != "gap" || !self.rebuild.had(row.number));
+        for kind in before.map_or_else(Vec::new, |before| alarms::taken_back(row, convicted, most, before)) {
+            let place = self.index.raised(row.number, kind).map_err(index::failed)?;
+            raised.push(alarms::take_back(kind, row, place));
+        }
+        raised.extend(presence.learn(row, case.before.as_ref()));
+        Ok(raised)
+    }
+
+    /// Which nodes are there is learned anew of the index.
+    pub fn learn_presence(&mut self) -> io::Result<()> {
+        self.presence = presence_by(&self.index, self.runs.systems.nodes())?;
+        Ok(())
+    }
+
+    /// Whether a log of a run waits.
+    pub fn is_open(&self, number: u32) -> bool {
+        self.open.contains_key(&number)
     }
 
     /// A run has been judged.
@@ -475,6 +630,32 @@ impl Keeper {
         }
         Ok(())
     }
+}
+
+/// The runs for which logs wait in an index.
+fn open_by(index: &Index) -> io::Result<BTreeMap<u32, Open>> {
+    let (begun, since) = (index.begun().map_err(index::failed)?, Instant::now());
+    Ok(begun.into_iter().map(|(number, nodes)| (number, Open { nodes, since })).collect())
+}
+
+/// The least number from the first one on of a run that was not judged, and the greater ones that were.
+fn judged_by(index: &Index, first: u32) -> io::Result<(u32, BTreeSet<u32>)> {
+    let (mut next, mut judged) = (first, BTreeSet::new());
+    for number in index.judged(first).map_err(index::failed)? {
+        if number == next {
+            next += 1;
+        } else {
+            judged.insert(number);
+        }
+    }
+    Ok((next, judged))
+}
+
+/// Which nodes are there, by an index.
+fn presence_by(index: &Index, nodes: u32) -> io::Result<Presence> {
+    let last = index.missing_last(DOWN_AFTER).map_err(index::failed)?;
+    let missing: Vec<Vec<u32>> = last.iter().map(|it| it.1.clone()).collect();
+    Ok(Presence::of(nodes, last.first().map(|it| it.0), &missing))
 }
 
 /// The row of a run, but for its file.
@@ -506,6 +687,7 @@ fn row_of(case: &Case, judged: Option<&Judged>, now: i64) -> Run {
         file: None,
         library: vamuretu::version(),
         judged: now,
+        nodes: run.nodes.clone(),
     }
 }
 
@@ -523,8 +705,11 @@ fn side_by_side(cases: Vec<io::Result<Case>>) -> Vec<io::Result<(Case, Option<Ju
     (0..count).map(|place| parts[place % threads].next().unwrap_or_else(|| Err(wrong("a thread ended")))).collect()
 }
 
-/// Judges a case.
+/// Judges a case. What lay in the folder was not looked at when it came.
 fn one(case: Case) -> io::Result<(Case, Option<Judged>)> {
+    if !case.found.bundles.is_empty() {
+        rebuild::check_seals(&case)?;
+    }
     let logs: Vec<(u32, &[u8])> = case.logs.iter().map(|(general, log)| (*general, &log.bytes[..])).collect();
     let judged = match logs.is_empty() {
         true => None,

@@ -1,31 +1,32 @@
 //! The watcher: it collects the logs of each run from all nodes, judges them by the proved library, and keeps what it finds.
-//! It has no key, and trusts no node.
+//! It signs nothing, and trusts no node.
 
 mod alarms;
 mod collect;
 pub mod index;
 pub mod judge;
-mod keep;
+pub mod keep;
+mod presence;
+mod rebuild;
+mod trust;
 
-use std::fs::OpenOptions;
-use std::os::unix::io::AsRawFd;
 use std::path::Path;
 use std::sync::atomic::{AtomicBool, Ordering};
 use std::sync::mpsc::sync_channel;
 use std::sync::Arc;
 use std::thread;
 
-use nix::fcntl::{flock, FlockArg};
-use prometheus::{Histogram, HistogramOpts, IntCounter, IntCounterVec, IntGauge, Opts, Registry};
+use prometheus::{Histogram, HistogramOpts, IntCounter, IntCounterVec, IntGauge, IntGaugeVec, Opts, Registry};
 use sd_notify::NotifyState;
 use tokio::net::TcpListener;
 use tokio::signal::unix::{signal, SignalKind};
 
-use crate::config::WatchFile;
+use crate::config::{self, WatchFile};
+use crate::disk::{self, Lock};
 use crate::frames::Transport;
 use crate::systems::Systems;
-use crate::{clock, metrics, End};
-use collect::Door;
+use crate::{clock, descriptors, metrics, End};
+use collect::{Door, Turn};
 use keep::{Keeper, Runs, Times};
 
 /// How many jobs, and how many alarms, wait at most.
@@ -43,6 +44,10 @@ pub struct Counts {
     pub bytes: IntCounterVec,
     pub open: IntGauge,
     pub next: IntGauge,
+    pub clock_trusted: IntGauge,
+    pub clock_ahead: IntGauge,
+    pub rebuilding: IntGauge,
+    pub silent: IntGaugeVec,
     pub judging: Histogram,
 }
 
@@ -59,9 +64,13 @@ impl Counts {
         };
         let convictions = IntCounter::new("vamuretu_watch_convictions_total", "Convictions of runs that were judged")?;
         registry.register(Box::new(convictions.clone()))?;
+        let silent = Opts::new("vamuretu_watch_silent_runs", "Runs one behind another in which no log of a node came");
+        let silent = IntGaugeVec::new(silent, &["node"])?;
+        registry.register(Box::new(silent.clone()))?;
         let judging = HistogramOpts::new("vamuretu_watch_judging_seconds", "Seconds to judge a run");
         let judging = Histogram::with_opts(judging.buckets(vec![0.001, 0.003, 0.01, 0.03, 0.1, 0.3, 1.0, 3.0, 10.0]))?;
         registry.register(Box::new(judging.clone()))?;
+        registry.register(Box::new(crate::lines::dropped()))?;
         Ok(Counts {
             logs: vector("logs_total", "Logs that were acknowledged", "kept")?,
             refused: vector("refused_total", "Messages that were refused", "reason")?,
@@ -72,21 +81,22 @@ impl Counts {
             bytes: vector("bytes_total", "Bytes of bundles, and those that were stored of them", "of")?,
             open: gauge("open_runs", "Runs for which logs wait")?,
             next: gauge("next_run", "The first run that was not judged")?,
+            clock_trusted: gauge("clock_trusted", "1 while the clock is believed")?,
+            clock_ahead: gauge("clock_ahead_seconds", "The step ahead that is not believed, or 0")?,
+            rebuilding: gauge("rebuilding_folders", "Folders whose runs are still compared with the index")?,
+            silent,
             judging,
         })
     }
 }
 
-/// Keeps others from the index as long as the program runs.
-pub fn lock(path: &Path) -> Result<std::fs::File, End> {
-    if let Some(folder) = path.parent().filter(|folder| !folder.as_os_str().is_empty()) {
-        keep::make_folder(folder).map_err(End::file(folder))?;
-    }
-    let name = path.with_extension("lock");
-    let file = OpenOptions::new().create(true).write(true).open(&name).map_err(End::file(&name))?;
-    match flock(file.as_raw_fd(), FlockArg::LockExclusiveNonblock) {
-        Ok(()) => Ok(file),
-        Err(told) => Err(End::failed(format!("{}: another program has it: {told}", name.display()))),
+/// Keeps others from the folder of the index as long as the program runs. An index that is a link would be in another folder.
+pub fn lock(index: &Path) -> Result<Lock, End> {
+    let folder = disk::folder_of(index);
+    keep::make_folder(folder).map_err(End::file(folder))?;
+    match std::fs::symlink_metadata(index) {
+        Ok(told) if told.is_symlink() => Err(End::fault(index, "a link, and no index")),
+        _ => Lock::take(folder),
     }
 }
 
@@ -102,21 +112,28 @@ pub fn run(file: &WatchFile) -> Result<(), End> {
     let _lock = lock(&file.watch.database)?;
     let registry = Registry::new();
     let counts = Arc::new(Counts::new(&registry).map_err(End::failed)?);
-    let runs = Arc::new(Runs::new(Systems::open(&file.system)?));
+    let systems = Systems::open(&file.system)?;
+    systems.check_context(&config::context_text(&file.clock, &file.orders))?;
+    let runs = Arc::new(Runs::new(systems));
     let first = runs.get(0)?;
     let longest = judge::longest_log(&first.header).map_err(End::failed)?;
     let (started, rounds) = (clock::now_ms(), first.header.rounds() as u32);
     let times = Times { clock: file.clock, rounds, deadline_ms: file.watch.deadline_ms, started, last_old: started };
     let (jobs, asked) = sync_channel(MOST_JOBS);
     let (to_tell, alarms) = sync_channel(MOST_ALARMS);
-    let opened = Keeper::open(file, runs.clone(), times, counts.clone(), to_tell);
-    let mut keeper = opened.map_err(|told| End::unusable(file.watch.database.display(), &told))?;
+    let guard = Arc::new(clock::Guard::new(file.clock));
+    let opened = Keeper::open(file, runs.clone(), times, counts.clone(), to_tell, guard.clone(), longest);
+    let mut keeper = opened.map_err(|told| match told.kind() {
+        std::io::ErrorKind::InvalidData => End { status: 3, line: told.to_string() },
+        _ => End::unusable(file.watch.database.display(), &told),
+    })?;
     let stop = Arc::new(AtomicBool::new(false));
     let (back, hook, failures, told) = (jobs.clone(), file.alarms.hook.clone(), counts.failures.clone(), stop.clone());
     let teller = thread::spawn(move || alarms::tell(&alarms, &back, hook, &failures));
     let worker = thread::spawn(move || keeper.work(&asked, &told));
-    let (id, transport) = (file.system.id, Transport::new(file.tls.as_ref())?);
-    let door = Door { id, runs, times, longest, counts, jobs, transport, alarmed: Default::default() };
+    let places = collect::places(file, &Transport::new(file.key.as_ref())?)?;
+    let turns = (0..runs.systems.nodes()).map(|_| Turn::new()).collect();
+    let door = Door { places, runs, times, guard, longest, counts, jobs, alarmed: Default::default(), turns };
     let ended = serve(file, door, registry, &worker);
     let _ = sd_notify::notify(false, &[NotifyState::Stopping]);
     stop.store(true, Ordering::Relaxed);
@@ -127,6 +144,7 @@ pub fn run(file: &WatchFile) -> Result<(), End> {
 /// Takes connections until a signal comes.
 #[tokio::main(worker_threads = 2)]
 async fn serve(file: &WatchFile, door: Door, registry: Registry, worker: &thread::JoinHandle<()>) -> Result<(), End> {
+    descriptors::keep_reserve(door.places.descriptors() + metrics::DESCRIPTORS)?;
     let bound = |address, told| End::unusable(address, &told);
     let listener = TcpListener::bind(file.watch.listen).await.map_err(|told| bound(file.watch.listen, told))?;
     if let Some(of) = &file.metrics {

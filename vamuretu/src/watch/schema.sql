@@ -3,7 +3,8 @@
 -- The system, and how many nodes it has. An archive that names none has an empty id.
 CREATE TABLE IF NOT EXISTS system (id TEXT NOT NULL, nodes INTEGER NOT NULL);
 -- Runs that were judged. A run is a gap if no log came. `others` are lists as short with a yes, and `missing` are nodes without
--- a log. `path`, `sha256` and `bytes` are those of the bundle, and `stored` are the bytes of its file.
+-- a log. `path`, `sha256` and `bytes` are those of the bundle, and `stored` are the bytes of its file. `nodes` has the node that
+-- each general of the run is.
 CREATE TABLE IF NOT EXISTS runs (
     number INTEGER PRIMARY KEY,
     run_id TEXT NOT NULL,
@@ -17,7 +18,8 @@ CREATE TABLE IF NOT EXISTS runs (
     bytes INTEGER,
     stored INTEGER,
     library TEXT NOT NULL,
-    judged INTEGER NOT NULL
+    judged INTEGER NOT NULL,
+    nodes TEXT NOT NULL
 );
 CREATE INDEX IF NOT EXISTS runs_by_verdict ON runs (verdict, number);
 CREATE INDEX IF NOT EXISTS runs_by_id ON runs (run_id);
@@ -31,15 +33,35 @@ CREATE TABLE IF NOT EXISTS logs (
     came INTEGER NOT NULL,
     PRIMARY KEY (number, node, sha256)
 ) WITHOUT ROWID;
--- Nodes that runs convict, by a kind as K2, with the file of the evidence.
+-- Nodes that runs convict, by each kind that any judging of the run has found, as K2, with the file of the evidence.
 CREATE TABLE IF NOT EXISTS convictions (
     number INTEGER NOT NULL,
     node INTEGER NOT NULL,
     kind TEXT NOT NULL,
     path TEXT NOT NULL,
-    PRIMARY KEY (number, node)
+    PRIMARY KEY (number, node, kind)
 ) WITHOUT ROWID;
 CREATE INDEX IF NOT EXISTS convictions_by_node ON convictions (node, number);
+-- The files that the watcher has stored, by their paths in its folder, each with the digest of its bytes on the disk. Evidence has
+-- its node and kind, and stays when its run is judged again.
+CREATE TABLE IF NOT EXISTS stored (
+    path TEXT PRIMARY KEY,
+    number INTEGER NOT NULL,
+    sha256 TEXT NOT NULL,
+    node INTEGER,
+    kind TEXT
+) WITHOUT ROWID;
+CREATE INDEX IF NOT EXISTS stored_by_number ON stored (number, path);
+-- Each time that the index lacked runs whose bundles lay in the folder: how many runs and convictions were taken in again, and
+-- the first number above all of these runs.
+CREATE TABLE IF NOT EXISTS rebuilt (
+    place INTEGER PRIMARY KEY,
+    runs INTEGER NOT NULL,
+    convictions INTEGER NOT NULL,
+    below INTEGER NOT NULL,
+    began INTEGER NOT NULL,
+    ended INTEGER
+);
 -- What was judged of a run before, with the columns of `runs`.
 CREATE TABLE IF NOT EXISTS changes (
     place INTEGER PRIMARY KEY,
@@ -65,6 +87,7 @@ CREATE TABLE IF NOT EXISTS alarms (
     told INTEGER
 );
 CREATE INDEX IF NOT EXISTS alarms_untold ON alarms (place) WHERE told IS NULL;
+CREATE INDEX IF NOT EXISTS alarms_by_number ON alarms (number, kind);
 -- Logs of runs that are not judged yet.
 CREATE TABLE IF NOT EXISTS waiting (
     number INTEGER NOT NULL,
@@ -110,13 +133,15 @@ CREATE TABLE IF NOT EXISTS answers (
 ) WITHOUT ROWID;
 CREATE INDEX IF NOT EXISTS answers_by_run ON answers (run_id, path);
 CREATE INDEX IF NOT EXISTS answers_by_number ON answers (number, path);
--- Nodes that a run in a file convicts. `other` is the place of the second run of a conviction across two, or `place` again.
+-- Nodes that a run in a file convicts, each with its root in that run. `other` is the place of the second run of a conviction
+-- across two, or `place` again.
 CREATE TABLE IF NOT EXISTS accused (
     path BLOB NOT NULL,
     place INTEGER NOT NULL,
     node INTEGER NOT NULL,
     kind TEXT NOT NULL,
     other INTEGER NOT NULL,
+    root TEXT NOT NULL,
     PRIMARY KEY (path, place, node, other)
 ) WITHOUT ROWID;
 -- What was said of a file before, if something else is said now, or by somebody else.
