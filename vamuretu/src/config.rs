@@ -24,6 +24,8 @@ const MOST_UNDER_WAY: u64 = 64;
 const MOST_DRIFT_PPM: u32 = 500;
 /// The orders that a header can have at most.
 const MOST_ORDERS: usize = 15;
+/// The most dots and brackets of a file: each can begin one table or array inside another.
+const MOST_NESTED: usize = 500;
 
 /// The system that a node is of, or that a watcher watches.
 #[derive(Debug, Clone, Deserialize)]
@@ -412,9 +414,22 @@ pub fn read<T: File>(path: &Path) -> Result<T, End> {
     read_text(path, &text)
 }
 
+/// Reads TOML. The parser goes one step deeper for each table or array inside another, and sets itself no bound: a text of 6 KB
+/// would end its stack.
+pub fn from_toml<T: DeserializeOwned>(path: &Path, text: &str) -> Result<T, End> {
+    let lines = text.lines().filter(|line| !line.trim_start().starts_with('#'));
+    if lines.flat_map(str::chars).filter(|it| ".[{".contains(*it)).count() > MOST_NESTED {
+        return Err(End::fault(
+            path,
+            format!("more than {MOST_NESTED} dots and brackets stand outside of lines of comment"),
+        ));
+    }
+    toml::from_str(text).map_err(|told| End::fault(path, told))
+}
+
 /// Reads the text of a configuration, whose paths count from the folder of its file.
 pub fn read_text<T: File>(path: &Path, text: &str) -> Result<T, End> {
-    let mut file: T = toml::from_str(text).map_err(|told| End::fault(path, told))?;
+    let mut file: T = from_toml(path, text)?;
     let folder = path.parent().unwrap_or(Path::new(""));
     for it in file.paths() {
         *it = folder.join(&*it);
@@ -446,6 +461,19 @@ mod tests {
 
     fn four() -> String {
         with_keys(&FOUR.replace("NODE", "2"))
+    }
+
+    #[test]
+    fn what_nests_without_end_is_refused() {
+        let path = Path::new("names.toml");
+        let read = |text: &str| from_toml::<toml::Value>(path, text).map_err(|told| told.line);
+        for nested in ["[", "{a=", "a.", "[{a.a="] {
+            let told = read(&format!("x = {}", nested.repeat(1 << 15))).expect_err("no end");
+            assert!(told.contains("more than 500 dots and brackets"), "{told}");
+        }
+        assert!(read(&format!("[{}a]", "a.".repeat(1 << 15))).is_err());
+        assert!(read(&format!("[{}a]", "a.".repeat(MOST_NESTED - 1))).is_ok());
+        assert!(read(&format!("# {}\na = 1", "[".repeat(1 << 15))).is_ok());
     }
 
     #[test]

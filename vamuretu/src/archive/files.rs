@@ -227,7 +227,7 @@ impl Listed {
 }
 
 /// The path of a name.
-fn path_of(names: Names, name: Vec<u8>) -> io::Result<PathBuf> {
+pub fn path_of(names: Names, name: Vec<u8>) -> io::Result<PathBuf> {
     let bytes = match names {
         Names::Lines | Names::Nulls => name,
         Names::Json => match serde_json::from_slice(&name)? {

@@ -18,7 +18,7 @@ use tokio::runtime::{Builder, Runtime};
 use vamuretu::FrameHead;
 
 use super::Reader;
-use crate::archive::files::{self, Listed, Names};
+use crate::archive::files::{self, Names};
 use crate::archive::read::{self, Question, Range};
 use crate::archive::room::Rooms;
 use crate::config::{self, NodeFile, WatchFile};
@@ -303,11 +303,13 @@ fn lists() -> Vec<Vec<u8>> {
     vec![b"/none/a\n/none/b c\n".into(), b"/none/a\0/none/b\0".into(), json.into()]
 }
 
+/// No name is looked for: a bent one may be that of a folder of this machine.
 fn listed(bytes: &[u8]) {
-    // A bent name must not lead to a folder of this machine, however short it is.
-    let bytes: Vec<u8> = bytes.iter().map(|&it| if it == b'/' { b'_' } else { it }).collect();
     for names in [Names::Lines, Names::Nulls, Names::Json] {
-        let _ = Listed::default().take_from(names, &bytes[..]);
+        let end = if names == Names::Nulls { 0 } else { b'\n' };
+        for name in bytes.split(|it| *it == end) {
+            let _ = files::path_of(names, name.to_vec());
+        }
     }
 }
 

@@ -15,7 +15,7 @@ use std::path::{Path, PathBuf};
 
 use crate::archive::id_of;
 use crate::archive::read::Range;
-use crate::config::Id;
+use crate::config::{from_toml, Id};
 use crate::text::quoted;
 use crate::{disk, End};
 use page::Page;
@@ -58,7 +58,7 @@ pub struct Names(BTreeMap<u32, String>);
 impl Names {
     pub fn read(path: &Path) -> Result<Names, End> {
         let text = std::fs::read_to_string(path).map_err(End::file(path))?;
-        let names: BTreeMap<String, String> = toml::from_str(&text).map_err(|told| End::fault(path, told))?;
+        let names: BTreeMap<String, String> = from_toml(path, &text)?;
         let named = |(node, name): (String, String)| node.parse().map(|node| (node, name));
         let names = names.into_iter().map(named).collect::<Result<_, _>>();
         Ok(Names(names.map_err(|told| End::fault(path, told))?))
