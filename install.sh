@@ -6,8 +6,9 @@
 #
 # What lies in bin, lib, include and share goes to the same folders of PREFIX, and all else to share/doc/vamuretu. A file is
 # installed if and only if SHA256SUMS of the archive names it, and none is if a digest is another. The list of what was installed
-# is share/vamuretu/files. The program bin/sm_tool is the one for processors with AVX2 where the archive has it, this processor has
-# what it needs, and nothing is put below a DESTDIR. Below a DESTDIR both are put, as bin/sm_tool and bin/sm_tool-v3. Status 1: something is missing or failed, and a line says what. Status 2: wrong words.
+# is share/vamuretu/files. The programs bin/sm_tool and bin/vamuretu are those for processors with AVX2 where the archive has them,
+# this processor has what they need, and nothing is put below a DESTDIR. Below a DESTDIR all are put, those for AVX2 as
+# bin/sm_tool-v3 and bin/vamuretu-v3. Status 1: something is missing or failed, and a line says what. Status 2: wrong words.
 
 set -u
 umask 022
@@ -41,12 +42,12 @@ put() {
     printf '%s\n' "$2" >>"$list" || fail "$list can't be written"
 }
 
-# Puts the program for this processor, as bin/sm_tool.
+# Puts the program of a name for this processor, if the archive has one.
 put_program() {
-    if [ -f "$here/bin/sm_tool-v3" ] && has_level_3; then
-        put "$here/bin/sm_tool-v3" bin/sm_tool
-    else
-        put "$here/bin/sm_tool" bin/sm_tool
+    if [ -f "$here/bin/$1-v3" ] && has_level_3; then
+        put "$here/bin/$1-v3" "bin/$1"
+    elif [ -f "$here/bin/$1" ]; then
+        put "$here/bin/$1" "bin/$1"
     fi
 }
 
@@ -58,11 +59,11 @@ install_all() {
     cut -c 67- "$here/SHA256SUMS" | while IFS= read -r file; do
         case $file in
         install.sh) ;;
-        bin/sm_tool*) [ -z "$destdir" ] || put "$here/$file" "$file" || exit 1 ;;
+        bin/*) [ -z "$destdir" ] || put "$here/$file" "$file" || exit 1 ;;
         *) put "$here/$file" "$(place_of "$file")" || exit 1 ;;
         esac
     done || exit 1
-    [ -n "$destdir" ] || put_program
+    [ -n "$destdir" ] || { put_program sm_tool && put_program vamuretu; }
     for link in "$here"/lib/*.so "$here"/lib/*.so.?.?; do
         [ ! -L "$link" ] || put "$link" "lib/${link##*/}"
     done

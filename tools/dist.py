@@ -5,7 +5,7 @@ The archive has what git has of the documents, the examples and the reference, a
 out/libsm_embed.a, out/libsm_node.a, and where they are there those for processors with AVX2, as out/sm_tool-v3, and the page
 out/audit.html. tools/proved.py says whether they were proved from the sources that are checked out. The compiler makes the heap
 and the shared libraries, which nothing proves. Where out/vamuretu is there, the archive has this program with its units for
-systemd; tools/node_program.py says whether it was built from the sources and over the libraries. Otherwise PROVED says that it is
+systemd, and out/vamuretu-v3 if that is there too; tools/node_program.py says whether it was built from the sources and over the libraries. Otherwise PROVED says that it is
 left out. The archive is called by the version if the commit is tagged by it, with a v in front, and otherwise by the version and
 the commit. A commit with this tag whose list of changes begins with "Unreleased" is refused.
 Dates are that of the commit, or SOURCE_DATE_EPOCH; owners, modes and the order are fixed.
@@ -41,6 +41,8 @@ LEVEL_3 = [("sm_tool-v3", "sm_tool", "bin/sm_tool-v3"), ("libsm_embed-v3.a", "sm
 LEVEL_3 += [("libsm_node-v3.a", "sm_node", "lib/libsm_node-v3.a")]
 # The program that goes on, which nothing proves, with the manual page of it alone, and where systemd finds its units and users.
 NODES, OF_NODES, UNITS, USERS = "bin/vamuretu", "vamuretu.1", "lib/systemd/system", "lib/sysusers.d"
+# Over which of the archives each of its programs is built.
+OVER = {"vamuretu": "the archives above for any processor", "vamuretu-v3": "those for processors of x86-64-v3"}
 # What the archive has of the repository, at the same place.
 KEPT = ("README.md", "CHANGELOG.md", "INSTALL.md", "SECURITY.md", "LICENSE-MIT", "LICENSE-APACHE", "install.sh")
 FOLDERS = ("docs/", "examples/", "reference/", "embed/")
@@ -85,9 +87,9 @@ def name_of(named):
     return version() if is_tagged else f"{version()}+{named[:12]}"
 
 
-def has_nodes():
-    """Whether the program that goes on is there."""
-    return os.path.exists(os.path.join(OUT, "vamuretu"))
+def nodes():
+    """The programs that go on which are there: none, that for any processor, or both."""
+    return [name for name in OVER if all(os.path.exists(os.path.join(OUT, it)) for it in ("vamuretu", name))]
 
 
 def look_over():
@@ -97,7 +99,7 @@ def look_over():
         wrong = proved.look(TOP, os.path.join(OUT, name), crate)
         if wrong:
             raise Refused(f"{wrong.replace(TOP + '/', '')}; ./test proves and builds all of it")
-    wrong = node_program.look(TOP, OUT) if has_nodes() else None
+    wrong = node_program.look(TOP, OUT) if nodes() else None
     if wrong:
         raise Refused(f"{wrong.replace(TOP + '/', '')}; tools/node_program.py builds it")
     for name, crate, _ in there:
@@ -121,14 +123,15 @@ def put_pages(tree):
     """The manual pages."""
     for name in sorted(os.listdir(os.path.join(TOP, "man"))):
         section = name.rsplit(".", 1)[1]
-        if name != OF_NODES or has_nodes():
+        if name != OF_NODES or nodes():
             write(f"{tree}/share/man/man{section}/{name}", read(os.path.join(TOP, "man", name)))
 
 
 def put_nodes(tree):
-    """The program that goes on, its units and the users that they want, and what shells complete."""
+    """The programs that go on, their units and the users that they want, and what shells complete."""
     program, units = os.path.join(OUT, "vamuretu"), os.path.join(TOP, "vamuretu", "systemd")
-    write(f"{tree}/{NODES}", read(program))
+    for name in nodes():
+        write(f"{tree}/bin/{name}", read(os.path.join(OUT, name)))
     for name in sorted(os.listdir(units)):
         write(f"{tree}/{UNITS if name.endswith('.service') else USERS}/{name}", read(os.path.join(units, name)))
     try:
@@ -182,7 +185,7 @@ def put_packages(tree):
 def glibc_of(tree):
     """The oldest glibc that has all that the program and the shared libraries ask for."""
     files = [f"{tree}/bin/sm_tool", *(f"{tree}/lib/lib{name}.so.{version()}" for name in HEADERS)]
-    files += [f"{tree}/{NODES}"] if has_nodes() else []
+    files += [f"{tree}/bin/{name}" for name in nodes()]
     asked = (it for file in files for it in re.findall(rb"GLIBC_(\d+)\.(\d+)", read(file)))
     return ".".join(map(str, max((int(it[0]), int(it[1])) for it in asked)))
 
@@ -201,17 +204,17 @@ def proved_text(tree, named, seconds, built):
         lines += ["", place, f"  sha256 {of['digest']}", f"  sources {of['sources']}", f"  gate {of['gate']}"]
     if PAGE in built:
         lines += ["  unproved is the step that compiles it for the browser: docs/PAGE.md"]
-    lines += lines_of_nodes() if has_nodes() else []
-    absent = [it[2] for it in [*LEVEL_3, PAGE] if it not in built] + ([] if has_nodes() else [NODES])
+    lines += [line for name in nodes() for line in lines_of(name)]
+    absent = [it[2] for it in [*LEVEL_3, PAGE] if it not in built] + [f"bin/{it}" for it in OVER if it not in nodes()]
     lines += [line for it in absent for line in ("", f"{it} is not here: it was not made")]
     return "\n".join(lines) + "\n"
 
 
-def lines_of_nodes():
-    """What PROVED says of the program that goes on."""
-    told = node_program.kept(os.path.join(OUT, "vamuretu"))
-    lines = ["", NODES, f"  sha256 {told['digest']}", f"  sources {told['sources']}"]
-    return [*lines, f"  unproved, made by {told['compiler']} over the archives above for any processor"]
+def lines_of(name):
+    """What PROVED says of a program that goes on."""
+    told = node_program.kept(os.path.join(OUT, name))
+    lines = ["", f"bin/{name}", f"  sha256 {told['digest']}", f"  sources {told['sources']}"]
+    return [*lines, f"  unproved, made by {told['compiler']} over {OVER[name]}"]
 
 
 def make_tree(tree):
@@ -225,7 +228,7 @@ def make_tree(tree):
     put_pages(tree)
     for name, text in completions.files().items():
         write(f"{tree}/{name}", text.encode())
-    if has_nodes():
+    if nodes():
         put_nodes(tree)
     put_libraries(tree)
     put_packages(tree)

@@ -2,9 +2,10 @@
 """Builds the program vamuretu (vamuretu/) by cargo, over the archives of the libraries for C, and keeps of what it was
 made.
 
-    tools/node_program.py put TREE FOLDER    builds it in TREE, and puts it to FOLDER as vamuretu, with vamuretu.made beside it.
+    tools/node_program.py put TREE FOLDER    builds it in TREE, and puts it to FOLDER as vamuretu, with vamuretu.made beside it. If
+                                             FOLDER has the archives for processors with AVX2, vamuretu-v3 is the same over these.
                                              Where it can't be built here a line says why, and FOLDER has none
-    tools/node_program.py look TREE FOLDER   says in one line what is wrong with that of FOLDER, with status 1, or nothing
+    tools/node_program.py look TREE FOLDER   says in one line what is wrong with those of FOLDER, with status 1, or nothing
 
 vamuretu.made has the digests of the program, of its sources and of the two archives, and the compiler. The sources are what
 cargo reads of vamuretu/ and embed/rust/, and the heap. Nothing is fetched, and nothing is written to the sources but
@@ -16,6 +17,7 @@ import re
 import shutil
 import subprocess
 import sys
+import tempfile
 
 # Where Debian's packages of crates are, of vamuretu/packages, and one without which nothing is built.
 CRATES, NEEDED = "/usr/share/cargo/registry", "tokio-rustls-"
@@ -23,6 +25,8 @@ OFFLINE = ["--offline", "--quiet"]
 # The oldest cargo that builds the program.
 OLDEST = (1, 80)
 ARCHIVES = ("sm_embed", "sm_node")
+# The programs, and what the names of the archives end with that each is built over.
+PROGRAMS = {"vamuretu": "", "vamuretu-v3": "-v3"}
 SOURCES = ("vamuretu/Cargo.toml", "vamuretu/.cargo", "vamuretu/src")
 SOURCES += ("embed/rust/Cargo.toml", "embed/rust/build.rs", "embed/rust/src", "embed/heap.c", "embed/sm_heap.h")
 
@@ -73,18 +77,18 @@ def what_lacks(tree):
     return f"{', '.join(lacks)} not here" if lacks else None
 
 
-def build(tree):
+def build(tree, **over):
     """The path of the program, which is built if it is older than its sources. An error is the caller's."""
-    package = os.path.join(tree, "vamuretu")
-    subprocess.run(["cargo", "build", *OFFLINE, "--release"], cwd=package, capture_output=True, check=True)
+    package, env = os.path.join(tree, "vamuretu"), {**os.environ, **over}
+    subprocess.run(["cargo", "build", *OFFLINE, "--release"], cwd=package, env=env, capture_output=True, check=True)
     return os.path.join(os.environ.get("CARGO_TARGET_DIR") or os.path.join(package, "target"), "release", "vamuretu")
 
 
-def record(tree, program):
-    """The text of vamuretu.made."""
+def record(tree, program, archives):
+    """The text of vamuretu.made, of a program over archives by the names of their libraries."""
     compiler = subprocess.run(["rustc", "--version"], capture_output=True, text=True, check=True).stdout.strip()
     lines = {"digest": digest(program), "sources": sources(tree), "compiler": compiler}
-    lines |= {name: digest(archive_of(tree, name)) for name in ARCHIVES}
+    lines |= {name: digest(archives[name]) for name in ARCHIVES}
     return "".join(f"{name} {value}\n" for name, value in lines.items())
 
 
@@ -94,29 +98,52 @@ def kept(program):
         return dict(line.rstrip("\n").split(" ", 1) for line in file)
 
 
+def archives_in(folder, program):
+    """The archives of a folder that a program is built over, by the names of their libraries."""
+    return {it: os.path.join(folder, f"lib{it}{PROGRAMS[program]}.a") for it in ARCHIVES}
+
+
+def keep(tree, folder, program, built, archives):
+    """Puts a built program to a folder, and keeps of what it was made."""
+    made = os.path.join(folder, program)
+    shutil.copy(built, made)
+    with open(f"{made}.made", "w", encoding="utf-8") as file:
+        file.write(record(tree, made, archives))
+
+
+def put_level_3(tree, folder):
+    """Builds the program over the archives of the folder for processors with AVX2, if they are there, and puts it there."""
+    archives = archives_in(folder, "vamuretu-v3")
+    if not all(map(os.path.exists, archives.values())):
+        return
+    with tempfile.TemporaryDirectory() as over:
+        for name, archive in archives.items():
+            os.symlink(os.path.abspath(archive), os.path.join(over, f"lib{name}.a"))
+        keep(tree, folder, "vamuretu-v3", build(tree, VAMURETU_LIBRARIES=over), archives)
+
+
 def put(tree, folder):
-    """Builds the program, and puts it to a folder. Returns the status."""
-    made = os.path.join(folder, "vamuretu")
-    for path in (f"{made}.made", made):
-        if os.path.lexists(path):
-            os.remove(path)
+    """Builds the programs, and puts them to a folder. Returns the status."""
+    for name in PROGRAMS:
+        for path in (os.path.join(folder, f"{name}.made"), os.path.join(folder, name)):
+            if os.path.lexists(path):
+                os.remove(path)
     lacks = what_lacks(tree)
     if lacks:
         print(f"vamuretu is left out: {lacks}")
         return 0
     try:
-        shutil.copy(build(tree), made)
+        keep(tree, folder, "vamuretu", build(tree), {name: archive_of(tree, name) for name in ARCHIVES})
+        put_level_3(tree, folder)
     except subprocess.CalledProcessError as told:
         print(told.stderr.decode(errors="replace")[-2000:])
         return 1
-    with open(f"{made}.made", "w", encoding="utf-8") as file:
-        file.write(record(tree, made))
     return 0
 
 
-def look(tree, folder):
-    """What is wrong with the program of a folder, in one line, or None."""
-    program = os.path.join(folder, "vamuretu")
+def wrong_with(tree, folder, name):
+    """What is wrong with a program of a folder, in one line, or None."""
+    program = os.path.join(folder, name)
     if not os.path.exists(program):
         return f"{program} is not there"
     if not os.path.exists(f"{program}.made"):
@@ -126,8 +153,15 @@ def look(tree, folder):
         return f"{program} is not the file that was built: its digest is another"
     if told.get("sources") != sources(tree):
         return f"{program} was built from other sources than those of the checkout"
-    others = [it for it in ARCHIVES if told.get(it) != digest(os.path.join(folder, f"lib{it}.a"))]
-    return f"{program} was built over another lib{others[0]}.a" if others else None
+    archives = archives_in(folder, name).items()
+    others = [path for it, path in archives if not os.path.exists(path) or told.get(it) != digest(path)]
+    return f"{program} was built over another {os.path.basename(others[0])}" if others else None
+
+
+def look(tree, folder):
+    """What is wrong with the programs of a folder, in one line, or None. One for processors with AVX2 need not be there."""
+    there = [name for name in PROGRAMS if name == "vamuretu" or os.path.exists(os.path.join(folder, name))]
+    return next(filter(None, (wrong_with(tree, folder, name) for name in there)), None)
 
 
 def main():

@@ -108,7 +108,7 @@ def built_files(program, tally):
     if not all(found.values()):
         return None
     nodes = build_program(tally)
-    return found | ({"vamuretu": nodes} if nodes else {})
+    return found | (dict.fromkeys(node_program.PROGRAMS, nodes) if nodes else {})
 
 
 def make_repository(place, built):
@@ -133,7 +133,8 @@ def clone(place, top, name, built):
         if it in CRATES:
             write(f"{kept}.proved", record(made, kept, CRATES[it]).encode())
         else:
-            write(f"{kept}.made", node_program.record(made, kept).encode())
+            archives = node_program.archives_in(os.path.join(made, "out"), it)
+            write(f"{kept}.made", node_program.record(made, kept, archives).encode())
     return made
 
 
@@ -504,7 +505,8 @@ def try_installed(tree, place, tally):
     root = os.path.join(place, "root")
     do([os.path.join(tree, "install.sh"), "PREFIX=/usr", f"DESTDIR={root}"])
     staged = all_files(os.path.join(root, "usr"))
-    tally.hold("DESTDIR", None if staged == sorted([*first, "bin/sm_tool-v3"]) else "it has other files")
+    both = [f"bin/{name}-v3" for name in ("sm_tool", "vamuretu") if f"bin/{name}" in first]
+    tally.hold("DESTDIR", None if staged == sorted([*first, *both]) else "it has other files")
 
 
 def try_checkout(top, place, tally):

@@ -424,7 +424,38 @@ pub fn from_toml<T: DeserializeOwned>(path: &Path, text: &str) -> Result<T, End>
             format!("more than {MOST_NESTED} dots and brackets stand outside of lines of comment"),
         ));
     }
-    toml::from_str(text).map_err(|told| End::fault(path, told))
+    toml::from_str(text).map_err(|told| fault_of(path, text, &told.to_string()))
+}
+
+/// What is wrong with a text. Of an unknown key `toml` tells the line where its table ends, and not that of the key.
+fn fault_of(path: &Path, text: &str, told: &str) -> End {
+    let key = told.strip_prefix("unknown field `").and_then(|rest| Some(rest.split_once('`')?.0));
+    let has_key = |line: &str| {
+        let rest = key.and_then(|key| line.trim_start().trim_start_matches('[').strip_prefix(key));
+        rest.map_or(false, |rest| rest.trim_start().starts_with(['=', ']']))
+    };
+    match text.lines().position(has_key) {
+        Some(line) => {
+            End::fault(path, format!("line {}: {}", line + 1, told.split(" at line ").next().unwrap_or(told)))
+        }
+        None => End::fault(path, told),
+    }
+}
+
+/// A configuration of one kind or the other.
+pub enum Either {
+    Node(Box<NodeFile>),
+    Watch(Box<WatchFile>),
+}
+
+/// Reads a configuration of which it is not said whose it is: that of a watcher has a table `[watch]`.
+pub fn read_either(path: &Path) -> Result<Either, End> {
+    let text = fs::read_to_string(path).map_err(End::file(path))?;
+    if from_toml::<toml::value::Table>(path, &text)?.contains_key("watch") {
+        read_text(path, &text).map(|file| Either::Watch(Box::new(file)))
+    } else {
+        read_text(path, &text).map(|file| Either::Node(Box::new(file)))
+    }
 }
 
 /// Reads the text of a configuration, whose paths count from the folder of its file.
@@ -474,6 +505,18 @@ mod tests {
         assert!(read(&format!("[{}a]", "a.".repeat(1 << 15))).is_err());
         assert!(read(&format!("[{}a]", "a.".repeat(MOST_NESTED - 1))).is_ok());
         assert!(read(&format!("# {}\na = 1", "[".repeat(1 << 15))).is_ok());
+    }
+
+    #[test]
+    fn a_wrong_key_is_named_with_its_line() {
+        let told = |text: &str| read_text::<NodeFile>(Path::new("2.toml"), text).map_err(|told| told.line);
+        let text = four();
+        let line = text.lines().position(|line| line.starts_with("period_ms")).expect("a period") + 1;
+        let wrong = told(&text.replace("period_ms", "periodms")).expect_err("a wrong key");
+        assert!(wrong.starts_with(&format!("2.toml: line {line}: unknown field `periodms`")), "{wrong}");
+        let wrong = told(&format!("{text}\n[watch]\n")).expect_err("a wrong table");
+        let line = text.lines().count() + 2;
+        assert!(wrong.starts_with(&format!("2.toml: line {line}: unknown field `watch`")), "{wrong}");
     }
 
     #[test]

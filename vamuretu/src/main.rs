@@ -34,6 +34,7 @@ use std::path::{Path, PathBuf};
 use std::process::ExitCode;
 
 use clap::{Parser, Subcommand};
+use config::Either;
 use serde_json::json;
 
 /// Why the program ends: its exit status, and a line.
@@ -83,30 +84,76 @@ struct Words {
     command: Command,
 }
 
+#[derive(clap::Args)]
+struct OfNode {
+    /// The configuration of the node
+    file: PathBuf,
+}
+
+#[derive(clap::Args)]
+struct OfWatcher {
+    /// The configuration of the watcher
+    file: PathBuf,
+}
+
+#[derive(clap::Args)]
+struct OfEither {
+    /// The configuration of a node or a watcher
+    file: PathBuf,
+}
+
+impl OfNode {
+    fn read(&self) -> Result<config::NodeFile, End> {
+        config::read(&self.file)
+    }
+}
+
 #[derive(Subcommand)]
 enum Command {
     /// Runs a node of a system until it is told to end
-    Node { file: PathBuf },
+    Node(OfNode),
     /// Collects the logs of all nodes, judges each run, and keeps what it finds
-    Watch { file: PathBuf },
+    Watch(OfWatcher),
     /// Writes what a running node says of itself, or what the index of a watcher has, as JSON
-    Status { file: PathBuf },
+    Status(OfEither),
+    /// Writes when a system ends, and how many of its runs are left, as JSON
+    Life(OfEither),
     /// Proposes a value in a run of a running node's own, in the next without a number
-    Propose { file: PathBuf, name: String, run: Option<u32> },
+    Propose {
+        #[command(flatten)]
+        of: OfNode,
+        /// The name of a value, as [orders] has it
+        name: String,
+        /// The number of a run in which this node proposes
+        run: Option<u32>,
+    },
     /// Writes the decisions of a running node from now on, as JSON
-    Decisions { file: PathBuf },
+    Decisions(OfNode),
     /// Tells a running node to begin no run, and waits until it has ended
-    Drain { file: PathBuf },
+    Drain(OfNode),
     /// Has a running node believe its clock, which was set ahead, and for which its runs wait
-    AcceptStep { file: PathBuf },
+    AcceptStep(OfEither),
     /// Writes the log of a run that the node keeps
-    Log { file: PathBuf, run: u32 },
+    Log {
+        #[command(flatten)]
+        of: OfNode,
+        /// The number of the run
+        run: u32,
+    },
     /// Writes the text whose SHA-256 is the context of the system
-    Context { file: PathBuf },
+    Context(OfNode),
     /// Makes the state of a node that has signed nothing yet from its secret
-    Keep { file: PathBuf, secret: PathBuf },
+    Keep {
+        #[command(flatten)]
+        of: OfNode,
+        /// The file of the node's secret: delete it then
+        secret: PathBuf,
+    },
     /// Makes the key of a node's or watcher's connections, if the file is not there, and writes its pin
-    Key { file: PathBuf },
+    Key {
+        /// The file of the key
+        file: PathBuf,
+    },
     /// Keeps an archive of bundles: judges them, and answers what was found
     #[command(subcommand)]
     Archive(archive::Archive),
@@ -121,7 +168,7 @@ const LARGE: libc::c_int = 1 << 17;
 
 /// Whether a command is a process that goes on.
 fn goes_on(command: &Command) -> bool {
-    matches!(command, Command::Node { .. } | Command::Watch { .. })
+    matches!(command, Command::Node(_) | Command::Watch(_))
 }
 
 /// Sets the allocator of the C library so that the memory of a process that goes on stays level.
@@ -133,9 +180,29 @@ fn set_allocator() {
     }
 }
 
-/// The configuration of a node.
-fn node_file(path: &Path) -> Result<config::NodeFile, End> {
-    config::read(path)
+/// Writes what a running node says of itself, or what the index of a watcher has.
+fn tell_status(of: &OfEither) -> Result<(), End> {
+    match config::read_either(&of.file)? {
+        Either::Watch(watcher) => watch::tell_status(&watcher),
+        Either::Node(node) => node::local::tell(&node, &json!({ "ask": "status" })),
+    }
+}
+
+/// Writes how long a system lasts.
+fn tell_life(of: &OfEither) -> Result<(), End> {
+    let (system, clock) = match config::read_either(&of.file)? {
+        Either::Watch(watcher) => (watcher.system, watcher.clock),
+        Either::Node(node) => (node.system, node.clock),
+    };
+    write(&node::life::told(&systems::Systems::open(&system)?, &clock))
+}
+
+/// Has a running node believe its clock.
+fn accept_step(of: &OfEither) -> Result<(), End> {
+    match config::read_either(&of.file)? {
+        Either::Watch(_) => Err(End::failed("a watcher believes its clock when it is started again")),
+        Either::Node(node) => node::local::tell(&node, &json!({ "ask": "accept-step" })),
+    }
 }
 
 /// Does a command. Tells whether an archive has what it should not have.
@@ -147,26 +214,21 @@ fn perform(command: &Command) -> Result<bool, End> {
     let done = match command {
         Command::Archive(asked) => return archive::perform(asked),
         Command::Report(asked) => report::write(asked),
-        Command::Node { file } => node::run(&node_file(file)?),
-        Command::Watch { file } => watch::run(&config::read::<config::WatchFile>(file)?),
-        Command::Status { file } => match config::read::<config::WatchFile>(file) {
-            Ok(watcher) => watch::tell_status(&watcher),
-            Err(_) => node::local::tell(&node_file(file)?, &json!({ "ask": "status" })),
-        },
-        Command::Propose { file, name, run } => {
+        Command::Node(of) => node::run(&of.read()?),
+        Command::Watch(of) => watch::run(&config::read::<config::WatchFile>(&of.file)?),
+        Command::Status(of) => tell_status(of),
+        Command::Life(of) => tell_life(of),
+        Command::Propose { of, name, run } => {
             let request = json!({ "ask": "propose", "value": { "name": name }, "run": run });
-            node::local::tell(&node_file(file)?, &request)
+            node::local::tell(&of.read()?, &request)
         }
-        Command::Decisions { file } => node::local::tell_all(&node_file(file)?, &json!({ "ask": "decisions" })),
-        Command::Drain { file } => node::local::tell_all(&node_file(file)?, &json!({ "ask": "drain" })),
-        Command::AcceptStep { file } => match config::read::<config::WatchFile>(file) {
-            Ok(_) => Err(End::failed("a watcher believes its clock when it is started again")),
-            Err(_) => node::local::tell(&node_file(file)?, &json!({ "ask": "accept-step" })),
-        },
-        Command::Log { file, run } => node::spool::write_log(&node_file(file)?, *run),
-        Command::Context { file } => write(&node_file(file)?.context_text()),
+        Command::Decisions(of) => node::local::tell_all(&of.read()?, &json!({ "ask": "decisions" })),
+        Command::Drain(of) => node::local::tell_all(&of.read()?, &json!({ "ask": "drain" })),
+        Command::AcceptStep(of) => accept_step(of),
+        Command::Log { of, run } => node::spool::write_log(&of.read()?, *run),
+        Command::Context(of) => write(&of.read()?.context_text()),
         Command::Key { file } => pins::make(file),
-        Command::Keep { file, secret } => node::keys::keep(&node_file(file)?, secret),
+        Command::Keep { of, secret } => node::keys::keep(&of.read()?, secret),
     };
     done.map(|()| false)
 }

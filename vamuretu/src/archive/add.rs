@@ -310,19 +310,24 @@ impl Work {
             Ok(content) => content,
             Err(told) => return cannot_read(&told),
         };
-        let (stamp, sha256) = (content.stamp, content.sha256);
-        if task.known.as_ref() == Some(&sha256) {
+        let stamp = content.stamp;
+        if task.known.as_ref().is_some_and(|known| *known == content.sha256()) {
             return Outcome::Same(stamp);
         }
         let memory = "memory was refused".to_owned();
-        match content.input.map(|input| judged::judge(&input, &self.admissions)) {
-            Ok(Ok(answer)) => Outcome::Judged { stamp, sha256: Some(sha256), answer: Ok(answer) },
+        let judged = content.input.as_deref().map(|input| judged::judge(input, &self.admissions));
+        match judged {
+            // A file that is the input was hashed by the library.
+            Ok(Ok(answer)) => {
+                let sha256 = content.stored.unwrap_or_else(|| answer.input.clone());
+                Outcome::Judged { stamp, sha256: Some(sha256), answer: Ok(answer) }
+            }
             Ok(Err(Fault::Memory)) => Outcome::Judged { stamp, sha256: None, answer: Err(memory) },
-            Ok(Err(fault)) => Outcome::Judged { stamp, sha256: Some(sha256), answer: Err(fault.to_string()) },
+            Ok(Err(fault)) => Outcome::Judged { stamp, sha256: Some(content.sha256()), answer: Err(fault.to_string()) },
             Err(told) if told.kind() == io::ErrorKind::OutOfMemory => {
                 Outcome::Judged { stamp, sha256: None, answer: Err(memory) }
             }
-            Err(told) => Outcome::Judged { stamp, sha256: Some(sha256), answer: Err(told.to_string()) },
+            Err(told) => Outcome::Judged { stamp, sha256: Some(content.sha256()), answer: Err(told.to_string()) },
         }
     }
 }

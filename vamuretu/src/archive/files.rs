@@ -42,11 +42,19 @@ pub struct Stamp {
 /// What a file holds, with the room for it.
 pub struct Content<'a> {
     pub stamp: Stamp,
-    /// The SHA-256 of the file as it is stored.
-    pub sha256: String,
     /// What the library is handed, or why there is nothing to hand.
     pub input: io::Result<Vec<u8>>,
+    /// The SHA-256 of the file as it is stored. None says that the file is the input, and it was not hashed.
+    pub stored: Option<String>,
     _taken: Option<Taken<'a>>,
+}
+
+impl Content<'_> {
+    /// The SHA-256 of the file as it is stored.
+    pub fn sha256(&self) -> String {
+        let of_input = || digest(self.input.as_deref().unwrap_or_default());
+        self.stored.clone().unwrap_or_else(of_input)
+    }
 }
 
 /// What is to be judged.
@@ -116,17 +124,17 @@ pub fn read<'a>(path: &Path, rooms: &'a Rooms) -> io::Result<Content<'a>> {
     let of_stored = rooms.stored.take(stamp.bytes);
     let mut stored = Vec::new();
     file.take(MOST_INPUT + 1).read_to_end(&mut stored)?;
-    let sha256 = digest(&stored);
     let is_packed = path.as_os_str().as_bytes().ends_with(PACKED.as_bytes());
     let length = match stored.len() as u64 > MOST_INPUT {
         true => Err(too_long("it has")),
         false if is_packed => unpacked_length(&stored, MOST_INPUT),
         false => Ok(stored.len() as u64),
     };
+    let sha256 = (is_packed || length.is_err()).then(|| digest(&stored));
     let taken = length.as_ref().ok().map(|length| rooms.judged.take(JUDGED * length));
     let input = length.and_then(|length| if is_packed { unpack(&stored, length) } else { Ok(stored) });
     drop(of_stored);
-    Ok(Content { stamp, sha256, input, _taken: taken })
+    Ok(Content { stamp, input, stored: sha256, _taken: taken })
 }
 
 /// How many bytes zstd has compressed, if these are at most so many. The frames say it, or it is counted.
@@ -353,7 +361,10 @@ mod tests {
         let read = |name: &str| read(&folder.join(name), &rooms).expect("a file");
         assert_eq!(read("a.bundle.zst").input.expect("compressed"), b"abc");
         let bad = read("b.bundle.zst");
-        assert_eq!((bad.stamp.bytes, bad.sha256, bad.input.is_err()), (3, digest(b"abc"), true));
+        assert_eq!((bad.stamp.bytes, bad.sha256(), bad.input.is_err()), (3, digest(b"abc"), true));
+        std::fs::write(folder.join("c.bundle"), "abc").expect("a file");
+        let plain = read("c.bundle");
+        assert_eq!((plain.sha256(), plain.stored, plain.input.expect("plain")), (digest(b"abc"), None, b"abc".into()));
         assert!(super::read(&folder, &rooms).is_err() && super::read(&folder.join("none"), &rooms).is_err());
         std::fs::remove_dir_all(folder).expect("a folder");
     }

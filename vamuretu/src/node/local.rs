@@ -358,7 +358,14 @@ fn ask(file: &NodeFile, request: &Json) -> io::Result<Lines<BufReader<Asking>>> 
 /// Asks a running node, and writes so many lines that it answers, or all until it ends.
 fn tell_some(file: &NodeFile, request: &Json, most: usize) -> Result<(), End> {
     let wrong = |told: io::Error| End::unusable(file.local.socket.display(), &told);
-    for line in ask(file, request).map_err(wrong)?.take(most) {
+    let no_answer = |told: io::Error| match told.kind() {
+        io::ErrorKind::NotFound | io::ErrorKind::ConnectionRefused => {
+            let (node, socket) = (file.node.number, file.local.socket.display());
+            End::unusable(format!("node {node} does not run: {socket}"), &told)
+        }
+        _ => wrong(told),
+    };
+    for line in ask(file, request).map_err(no_answer)?.take(most) {
         let line = line.map_err(wrong)?;
         crate::write(&format!("{line}\n"))?;
         if line.starts_with("{\"refused\"") {

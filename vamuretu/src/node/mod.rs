@@ -4,6 +4,7 @@ mod ahead;
 pub mod counts;
 mod inbox;
 pub mod keys;
+pub mod life;
 pub mod local;
 mod peers;
 mod runs;
@@ -227,6 +228,7 @@ struct Scheduler {
     shared: Arc<Shared>,
     keeper: Keeper,
     passing: Passing,
+    life: life::Told,
     /// The run that begins next, whose header is made while there is time.
     prepared: Option<Run>,
     under_way: Vec<JoinHandle<()>>,
@@ -341,6 +343,9 @@ impl Scheduler {
             .map_err(|told| End::fault(&shared.file.node.state, format!("run {number}: {told}")))?;
         shared.counts.newest.set(number.into());
         shared.counts.sets_left.set((shared.systems.runs() / shared.systems.slots()) as i64 - 1 - i64::from(run.set));
+        if let Some(left) = self.life.alarm(shared.systems.runs(), number) {
+            tracing::error!(alarm = "life", run = number, left, "few runs are left: the next system has to be ready");
+        }
         let play = move || play(&shared, &run, node, &inbox, begins);
         let thread = thread::Builder::new().name(format!("run {number}")).stack_size(STACK).spawn(play);
         self.under_way.push(thread.map_err(|told| End::unusable("a thread", &told))?);
@@ -494,7 +499,8 @@ pub fn run(file: &NodeFile) -> Result<(), End> {
     tracing::info!(node = file.node.number, system = %hex::encode(file.system.id), mark = ?keeper.mark(), "started");
     let _ = sd_notify::notify(false, &[NotifyState::Ready]);
     let (passing, prepared, under_way) = (Passing::default(), None, vec![]);
-    let mut scheduler = Scheduler { shared: shared.clone(), keeper, passing, prepared, under_way };
+    let life = life::Told::default();
+    let mut scheduler = Scheduler { shared: shared.clone(), keeper, passing, life, prepared, under_way };
     let ended = scheduler.go_on();
     let _ = sd_notify::notify(false, &[NotifyState::Stopping]);
     // Runs under way may take longer than a sign of life may be away.

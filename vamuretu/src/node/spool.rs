@@ -469,7 +469,12 @@ impl Keeping<'_> {
 pub fn write_log(file: &NodeFile, run: u32) -> Result<(), End> {
     let path = path_of(&file.node.spool, run, true);
     let path = if path.exists() { path } else { path_of(&file.node.spool, run, false) };
-    let kept = fs::File::open(&path).map_err(End::file(&path))?;
+    let kept = fs::File::open(&path).map_err(|told| match told.kind() {
+        io::ErrorKind::NotFound => {
+            End::unusable(format!("the spool has no log of run {run}: {}", path.display()), &told)
+        }
+        _ => End::unusable(path.display(), &told),
+    })?;
     zstd::stream::copy_decode(kept, io::stdout()).map_err(End::file(&path))
 }
 

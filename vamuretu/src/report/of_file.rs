@@ -64,7 +64,7 @@ pub fn page(asked: &Report, names: &Names) -> Result<Page, End> {
     page.head("A picture");
     let what = format!("The logs, round by round, and what was found.{}", generals(&answer, names));
     page.picture(&what, &vamuretu::draw_of(expected, &input).map_err(wrong)?);
-    judged_by(&mut page, asked, content.sha256, answer.input);
+    judged_by(&mut page, asked, content.stored.unwrap_or_else(|| answer.input.clone()), answer.input);
     Ok(page)
 }
 

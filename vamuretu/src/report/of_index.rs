@@ -298,7 +298,7 @@ fn commands_of(found: &Found, told: &Told) -> String {
 /// What became of a file that a watcher has stored.
 fn is_kept(folder: &Path, file: &Digest) -> &'static str {
     match files::read(&folder.join(&file.path), &Rooms::default()) {
-        Ok(content) if content.sha256 == file.sha256 => "as it was stored",
+        Ok(content) if content.sha256() == file.sha256 => "as it was stored",
         Ok(_) => "other bytes",
         Err(told) if told.kind() == std::io::ErrorKind::NotFound => "gone",
         Err(_) => "cannot be read",
