@@ -107,17 +107,22 @@ def accepted(lab):
         wants(not waits(made, STEPPED), waits(made, STEPPED))
 
 
-@case("a process that stands still counts the runs that it missed, and says so")
+@case("a process that stands still counts the runs that it missed, and says so, and that a proposal for one is lost")
 def halted(lab):
     with lab.system(watcher=False) as made:
         since = time.monotonic()
         goes_on(made, 4, "before")
+        now = made.number_now()
+        own = next(run for run in range(now + 3, now + 7) if run % 4 == 1)
+        told = made.nodes[1].ask(ask="propose", value={"name": "close"}, run=own)
+        wants(told.get("run") == own, f"a proposal for run {own}: {told}")
         os.kill(made.pid(1), signal.SIGSTOP)
         made.wait_runs(6)
         os.kill(made.pid(1), signal.SIGCONT)
         time.sleep(1)
         alarms, missed = says_missed(made, 1, since), made.counts(1)["vamuretu_runs_missed_total"]
         wants(missed >= 6 and sum(it["runs"] for it in alarms) <= missed, f"{missed} runs were missed, and the alarms {alarms}")
+        wants(made.nodes[1].lost == [own], f"the proposal for run {own} is lost, and told are those for {made.nodes[1].lost}")
         goes_on(made, 4, "afterwards")
 
 

@@ -95,7 +95,7 @@ class Node(Process):
         self.made, self.number = made, number
         self.config = os.path.join(made.folder, f"{number}.toml")
         self.socket = os.path.join(made.folder, f"{number}.socket")
-        self.decided, self.starts, self.process, self.told = {}, 0, None, threading.Lock()
+        self.decided, self.lost, self.starts, self.process, self.told = {}, [], 0, None, threading.Lock()
 
     def start(self):
         self.starts += 1
@@ -131,10 +131,12 @@ class Node(Process):
             lines.write('{"ask": "decisions"}\n')
             lines.flush()
             for line in lines:
-                told = json.loads(line).get("decided")
+                said = json.loads(line)
+                told = said.get("decided")
                 if told:
                     with self.told:
                         self.decided.setdefault(told["run"], []).append(self.kept(told))
+                self.lost += (it["run"] for it in said.get("lost", {}).get("proposals", []))
 
     def kept(self, told):
         """What is kept of a decision."""

@@ -11,6 +11,7 @@ pub struct Counts {
     pub late: IntCounter,
     pub missed: IntCounter,
     pub failed: IntCounter,
+    pub proposals_lost: IntCounter,
     pub lost: IntCounter,
     pub refused: IntCounterVec,
     pub dropped: IntCounterVec,
@@ -93,6 +94,8 @@ impl Counts {
             late: make.counter("runs_late_total", "Decided runs in which this node was late, and counts as faulty."),
             missed: make.counter("runs_missed_total", "Runs that this node did not begin, since it was started."),
             failed: make.counter("runs_failed_total", "Runs that this node began, and ended without a decision."),
+            proposals_lost: make
+                .counter("proposals_lost_total", "Proposals for runs that this node did not begin, or did not decide."),
             lost: make.counter("frames_lost_total", "Frames that had not come when their round ended."),
             refused: make.counters("frames_refused_total", "Frames that were refused, by their fault.", "fault"),
             dropped: make.counters("frames_dropped_total", "Frames that a full queue dropped.", "peer"),

@@ -2,6 +2,7 @@
 //!
 //! A value is an object, `{"name": ..}` for an order of the configuration's table: other members may come for other values.
 
+use std::collections::BTreeMap;
 use std::io::{self, BufRead, BufReader, Lines, Write};
 use std::os::unix::fs::{FileTypeExt, PermissionsExt};
 use std::os::unix::net::UnixStream as Asking;
@@ -83,6 +84,12 @@ pub fn decision_line(file: &NodeFile, run: &Run, outcome: &Outcome, is_stored: b
         "receipt": base64::encode(&outcome.receipt),
     });
     json!({ "decided": decided }).to_string().into()
+}
+
+/// The line of proposals that are lost, by their runs.
+pub fn lost_line(file: &NodeFile, lost: &BTreeMap<u32, u8>, why: &str) -> Arc<str> {
+    let named = |(run, order): (&u32, &u8)| json!({ "run": run, "value": file.name_of((*order).into()).map(|name| json!({ "name": name })) });
+    json!({ "lost": { "proposals": lost.iter().map(named).collect::<Vec<_>>(), "why": why } }).to_string().into()
 }
 
 /// Takes away a socket that nobody serves. Nothing else that is there is touched.

@@ -62,6 +62,11 @@ const STACK: usize = 2 << 20;
 /// How long a node that ends waits for its watchers.
 const MOST_SHIPPING: Duration = Duration::from_secs(5);
 
+/// Why a proposal for a run is lost that did not begin.
+const PASSED: &str = "this node did not begin the run";
+/// How many runs a line names.
+const MOST_NAMED: usize = 16;
+
 /// What was proposed for runs that have not begun.
 #[derive(Default)]
 struct Proposals {
@@ -70,17 +75,21 @@ struct Proposals {
 }
 
 impl Proposals {
-    /// Keeps an order for a run, where `next` is the run that begins next. Tells the order that was proposed before.
-    fn put(&mut self, next: u32, run: u32, order: u8) -> Option<u8> {
-        self.orders = self.orders.split_off(&next);
+    /// Keeps an order for a run. Tells the order that was proposed before.
+    fn put(&mut self, run: u32, order: u8) -> Option<u8> {
         self.orders.insert(run, order)
     }
 
     /// Takes the order of a run that begins now.
     fn take(&mut self, run: u32) -> Option<u8> {
         self.newest = Some(run);
-        self.orders = self.orders.split_off(&run);
         self.orders.remove(&run)
+    }
+
+    /// Takes the orders of all runs below this one.
+    fn lose(&mut self, run: u32) -> BTreeMap<u32, u8> {
+        let kept = self.orders.split_off(&run);
+        std::mem::replace(&mut self.orders, kept)
     }
 }
 
@@ -194,7 +203,26 @@ impl Shared {
         let next = next.ok_or("no run is left")?.number;
         let is_own = |run: u32| self.systems.proposer_of(run) == self.file.node.number;
         let run = run_to_propose_in(run, next, self.systems.runs(), is_own)?;
-        Ok((run, proposals.put(next, run, order)))
+        let (replaced, lost) = (proposals.put(run, order), proposals.lose(next));
+        drop(proposals);
+        self.tell_lost(&lost, PASSED);
+        Ok((run, replaced))
+    }
+
+    /// Tells that proposals are lost, if there are any.
+    fn tell_lost(&self, lost: &BTreeMap<u32, u8>, why: &str) {
+        if lost.is_empty() {
+            return;
+        }
+        self.counts.proposals_lost.inc_by(lost.len() as u64);
+        tracing::warn!(runs = ?lost.keys().take(MOST_NAMED).collect::<Vec<_>>(), count = lost.len(), why, "proposals are lost");
+        let _ = self.decisions.send(local::lost_line(&self.file, lost, why));
+    }
+
+    /// Takes away the proposals for runs below this one, and tells that they are lost.
+    fn lose_below(&self, run: u32, why: &str) {
+        let lost = self.proposals().lose(run);
+        self.tell_lost(&lost, why);
     }
 
     /// Takes what was proposed for a run, which begins now.
@@ -256,6 +284,7 @@ impl Scheduler {
             let opens_ms = now_ms.saturating_add(shared.least_lead_ms());
             let missed = self.passing.pass(opens_ms, self.keeper.mark(), shared.systems.runs(), &shared.file.clock);
             shared.counts.missed.inc_by(missed.into());
+            shared.lose_below(self.passing.next(), PASSED);
         }
         let all = shared.counts.missed.get();
         if let Some(runs) = self.passing.alarm(all, Instant::now()) {
@@ -280,6 +309,7 @@ impl Scheduler {
             };
             thread::sleep(wait.min(LOOK));
         }
+        self.shared.lose_below(u32::MAX, "the node ends");
         Ok(())
     }
 
@@ -346,25 +376,33 @@ impl Scheduler {
         if let Some(left) = self.life.alarm(shared.systems.runs(), number) {
             tracing::error!(alarm = "life", run = number, left, "few runs are left: the next system has to be ready");
         }
-        let play = move || play(&shared, &run, node, &inbox, begins);
+        let play = move || {
+            if !play(&shared, &run, node, &inbox, begins) {
+                let lost = proposed.into_iter().map(|order| (number, order)).collect();
+                shared.tell_lost(&lost, "the run ended without a decision of this node");
+            }
+        };
         let thread = thread::Builder::new().name(format!("run {number}")).stack_size(STACK).spawn(play);
         self.under_way.push(thread.map_err(|told| End::unusable("a thread", &told))?);
         Ok(())
     }
 }
 
-/// Makes a run, keeps its log, and tells its decision.
-fn play(shared: &Shared, run: &Run, node: Node, inbox: &Inbox, begins: Instant) {
+/// Makes a run, keeps its log, and tells its decision. Tells whether there is one.
+fn play(shared: &Shared, run: &Run, node: Node, inbox: &Inbox, begins: Instant) -> bool {
     thread::sleep(begins.saturating_duration_since(Instant::now()));
     // A node that has not begun signs nothing, and one that begins late would count as faulty.
     if begins.elapsed() > Duration::from_millis(u64::from(shared.file.clock.round_ms) / 4) {
         tracing::warn!(run = run.number, "too late to begin");
         shared.counts.missed.inc();
-        return shared.inboxes.close(inbox);
+        shared.inboxes.close(inbox);
+        return false;
     }
     shared.counts.begun.inc();
     let mut play = Play::new(shared, run, node, inbox, begins);
-    match play.all() {
+    let ended = play.all();
+    let is_decided = ended.is_ok();
+    match ended {
         Ok(outcome) => {
             let keeping = shared.spool.keep(run.number, &outcome.log);
             let is_stored = play.linger_for(|most| keeping.wait(most));
@@ -386,6 +424,7 @@ fn play(shared: &Shared, run: &Run, node: Node, inbox: &Inbox, begins: Instant) 
         }
     }
     shared.inboxes.close(inbox);
+    is_decided
 }
 
 /// Says to the system's manager that the node is alive, while the scheduler is at work.
@@ -535,18 +574,18 @@ mod tests {
 
     #[test]
     fn proposals_of_one_application_leave_room_for_others() {
-        let mut proposals = Proposals::default();
+        let (mut proposals, mut lost) = (Proposals::default(), 0);
         for next in 0..5000 {
             for run in [next, next + MOST_AHEAD - 1] {
                 assert_eq!(run_to_propose_in(Some(run), next, 10_000, |_| true), Ok(run));
-                proposals.put(next, run, 1);
+                proposals.put(run, 1);
+                lost += proposals.lose(next).len();
             }
             assert!(proposals.orders.len() <= MOST_AHEAD as usize);
         }
-        assert_eq!(
-            (proposals.take(5000), proposals.take(5001), proposals.put(5002, 5002, 2)),
-            (Some(1), Some(1), Some(1))
-        );
+        assert_eq!(lost, 4999, "one for each run that passed");
+        assert_eq!((proposals.take(5000), proposals.take(5001), proposals.put(5002, 2)), (Some(1), Some(1), Some(1)));
         assert_eq!((proposals.take(5002), proposals.take(5001)), (Some(2), None));
+        assert_eq!(proposals.lose(5004), BTreeMap::from([(4999, 1), (5003, 1)]));
     }
 }

@@ -75,6 +75,11 @@ impl Passing {
         open.saturating_sub(next)
     }
 
+    /// The least run that neither began nor passed.
+    pub fn next(&self) -> u32 {
+        self.next.unwrap_or(0)
+    }
+
     /// A run begins.
     pub fn begin(&mut self, number: u32) {
         self.next = self.next.max(number.checked_add(1));
