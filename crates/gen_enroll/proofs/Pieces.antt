@@ -6,7 +6,7 @@ use Rattle.gen_tree.specs.Rings.{ring_root}
 use Rattle.gen_identity.specs.States.{set_seed, state_after, seed_after}
 use Rattle.gen_identity.specs.Sets.{set_roots}
 use Rattle.gen_identity.proofs.Steps.{steps_add}
-use Rattle.gen_enroll.specs.Loops.{set_seeds}
+use Rattle.gen_enroll.specs.Loops.{set_states}
 
 -- the roots of m + n sets, in two pieces
 pub roots_join : (state : List ℕ) (height : TreeHeight) (m n : ℕ) → set_roots state height (m + n) ≡ set_roots state height m ++ set_roots (state_after state m) height n
@@ -32,22 +32,22 @@ length-set_roots state height zero = refl
 length-set_roots state height (suc n) =
     length_push (set_roots state height n) (ring_root (seed_after state n) height) ∙ ap (λ (k : ℕ). k + 1) (length-set_roots state height n) ∙ add-one n
 
--- the roots of the trees of the seeds of some sets
-pub roots_of_seeds : (state : List ℕ) (height : TreeHeight) (n : ℕ) → map (λ (s : List ℕ). ring_root s height) (set_seeds state n) ≡ set_roots state height n
-unfolding set_roots set_seeds
-roots_of_seeds state height zero = refl
-roots_of_seeds state height (suc n) =
-    map-append (λ (s : List ℕ). ring_root s height) (set_seeds state n) (seed_after state n ∷ [])
-    ∙ ap (λ (roots : List (List ℕ)). roots ++ ring_root (seed_after state n) height ∷ []) (roots_of_seeds state height n)
+-- the roots of the sets of some states
+pub roots_of_states : (state : List ℕ) (height : TreeHeight) (n : ℕ) → map (λ (s : List ℕ). ring_root (set_seed s) height) (set_states state n) ≡ set_roots state height n
+unfolding set_roots set_states
+roots_of_states state height zero = refl
+roots_of_states state height (suc n) =
+    map-append (λ (s : List ℕ). ring_root (set_seed s) height) (set_states state n) (state_after state n ∷ [])
+    ∙ ap (λ (roots : List (List ℕ)). roots ++ ring_root (seed_after state n) height ∷ []) (roots_of_states state height n)
 
--- the seeds of no sets, and of one set more
-pub no_seeds : (state : List ℕ) → set_seeds state 0 ≡ []
-unfolding set_seeds
-no_seeds state = refl
+-- the states of no sets, and of one set more
+pub no_states : (state : List ℕ) → set_states state 0 ≡ []
+unfolding set_states
+no_states state = refl
 
-pub set_seeds-more : (state : List ℕ) (n : ℕ) → set_seeds state (n + 1) ≡ set_seeds state n ++ seed_after state n ∷ []
-unfolding set_seeds
-set_seeds-more state n = ap (set_seeds state) (add-one n)
+pub set_states-more : (state : List ℕ) (n : ℕ) → set_states state (n + 1) ≡ set_states state n ++ state_after state n ∷ []
+unfolding set_states
+set_states-more state n = ap (set_states state) (add-one n)
 
 -- what roots are after those of one turn more
 pub grown_by_turn : (state next : List ℕ) (height : TreeHeight) (done turn whole : ℕ) (old new : List (List ℕ)) → done + turn ≡ whole → next ≡ state_after state done → old ≡ set_roots state height done → new ≡ old ++ set_roots next height turn

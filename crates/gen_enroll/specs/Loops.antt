@@ -1,8 +1,8 @@
--- The seeds of sets that follow one another.
+-- The states of sets that follow one another.
 use Rattle.std.specs.Prelude.{ℕ, zero, suc, List, [], ◌∷◌, ◌++◌}
-use Rattle.gen_identity.specs.States.{seed_after}
+use Rattle.gen_identity.specs.States.{state_after}
 
--- the seeds of the first n sets of a state
-unfoldable pub set_seeds : List ℕ → ℕ → List (List ℕ)
-set_seeds state zero = []
-set_seeds state (suc n) = set_seeds state n ++ seed_after state n ∷ []
+-- a state and those behind it, n in all
+unfoldable pub set_states : List ℕ → ℕ → List (List ℕ)
+set_states state zero = []
+set_states state (suc n) = set_states state n ++ state_after state n ∷ []

@@ -2,14 +2,13 @@
 ghost use Rattle.std.specs.Prelude.{◌≡◌, ◌≤◌, ◌<◌, ◌++◌, IfOk, OnOk};
 ghost use Rattle.gen_identity.specs.Sets.{set_roots, identity_over, identity_of_secret};
 ghost use Rattle.gen_enroll.specs.RootFiles.{file_of_secret};
-ghost use Rattle.gen_enroll.specs.Loops.{set_seeds};
+ghost use Rattle.gen_enroll.specs.Loops.{set_states};
 
 use crate::heads::sets_on;
 use crate::root_files::Roots;
-use crate::taking::append_roots_of_seeds;
+use crate::taking::append_roots_of_states;
 use gen_identity::State;
 use gen_identity::sizes::MOST_LEVELS;
-use gen_tree::KeyTree;
 use gen_types::TreeHeight;
 use std::alloc::{AllocError, Global};
 use std::thread::Threads;
@@ -34,25 +33,23 @@ pub fn roots_of_next_sets(
     let mut roots = Vec::with_capacity(alloc, count as usize)?;
     let mut state = state;
     'sets: for _ in 0..count {
-        let (seed, next) = state.step();
-        roots.push(KeyTree::from_seed(alloc, &seed, height)?.root())?;
-        state = next;
+        roots.push(state.root(alloc, height)?)?;
+        state = state.next();
     }
     Ok(roots)
 }
 
-/// Returns the seeds of `count` sets, that of the state first.
-fn seeds_of(alloc: Global, state: &[u8; 32], count: u32) -> Result<Vec<[u8; 32]>, AllocError>
-    ensures { IfOk result (λ seeds. seeds.items ≡ set_seeds state.now count) }
+/// Returns the states of `count` sets, this one first.
+fn states_of(alloc: Global, state: &[u8; 32], count: u32) -> Result<Vec<[u8; 32]>, AllocError>
+    ensures { IfOk result (λ states. states.items ≡ set_states state.now count) }
 {
-    let mut seeds = Vec::with_capacity(alloc, count as usize)?;
+    let mut states = Vec::with_capacity(alloc, count as usize)?;
     let mut next = State::new(*state);
     'sets: for _ in 0..count {
-        let (seed, after) = next.step();
-        seeds.push(seed)?;
-        next = after;
+        states.push(*next.as_bytes())?;
+        next = next.next();
     }
-    Ok(seeds)
+    Ok(states)
 }
 
 /// Appends the roots of `count` sets, that of the state first, which are made by the workers side by side.
@@ -67,8 +64,8 @@ fn append_turn<R: Threads + Sync>(
 ) -> Result<(), AllocError>
     ensures { OnOk result (roots.new.items ≡ roots.old.items ++ set_roots state.now height count) }
 {
-    let seeds = seeds_of(alloc, state, count)?;
-    append_roots_of_seeds(rt, alloc, &seeds, height, workers, roots)
+    let states = states_of(alloc, state, count)?;
+    append_roots_of_states(rt, alloc, &states, height, workers, roots)
 }
 
 /// Returns the roots of `count` sets, that of the state first, whose trees have this height. They are the same whatever

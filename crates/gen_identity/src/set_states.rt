@@ -1,7 +1,7 @@
 //! States with the numbers of their sets and their system, as a node keeps them.
-ghost use Rattle.std.specs.Prelude.{ℕ, ◌≡◌, ◌≤◌, ◌↔◌, IsTrue, IsSome, IfSome, List, ◌++◌};
+ghost use Rattle.std.specs.Prelude.{ℕ, ◌≡◌, ◌≤◌, ◌-◌, ◌↔◌, IsTrue, IsSome, IfSome, List, ◌++◌};
 ghost use Rattle.gen_identity.specs.SetStates.{IsOfSecret, state_spelling};
-ghost use Rattle.gen_identity.specs.States.{seed_after};
+ghost use Rattle.gen_identity.specs.States.{seed_after, set_seed, state_after};
 
 use crate::sizes::STATE_BYTES;
 use crate::states::State;
@@ -75,6 +75,8 @@ impl NumberedState {
     /// another system: the keys of a set sign for one system alone.
     pub fn seed(&self, system: &[u8; 32]) -> Option<[u8; 32]>
         ensures served { IsSome result ↔ (self.now.system ≡ system.now) }
+        // The seed is that of the state itself, and so that of the set of whatever secret the state is.
+        ensures own { IfSome result (λ seed. seed ≡ set_seed self.now.bytes) }
         ensures seed { (secret : List ℕ) → IsOfSecret secret self.now
             → IfSome result (λ seed. seed ≡ seed_after secret self.now.number) }
     {
@@ -90,6 +92,7 @@ impl NumberedState {
         requires { self.number ≤ number }
         ensures number { result.number ≡ number }
         ensures system { result.system ≡ self.system }
+        ensures bytes { result.bytes ≡ state_after self.bytes (number - self.number) }
         ensures secret { (secret : List ℕ) → IsOfSecret secret self → IsOfSecret secret result }
     {
         let NumberedState {

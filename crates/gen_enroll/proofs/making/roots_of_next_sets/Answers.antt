@@ -1,6 +1,6 @@
 use Rattle.std.proofs.Common.{◌≡◌, ℕ, List, sym, ap, ◌∙◌, arith}
 use Rattle.gen_tree.specs.Rings.{ring_root}
-use Rattle.gen_identity.specs.States.{next_state, set_seed, seed_after}
+use Rattle.gen_identity.specs.States.{next_state, set_seed}
 use Rattle.gen_identity.specs.Sets.{set_roots}
 use Rattle.gen_identity.proofs.Steps.{state_after-none, state_after-more, no_roots, set_roots-more}
 use Rattle.gen_enroll.proofs.making.roots_of_next_sets.Goals as goal
@@ -15,11 +15,9 @@ pub sets-preserved : goal.sets-preserved
 sets-preserved c =
     let n = c.sets.counter in
     let before = c.sets.invariant in
-    let seed = c.step-next.ensures.seed ∙ ap set_seed before.state in
-    let root : c.root-in-sets.result ≡ ring_root (seed_after c.args.state n) c.args.height
-    = c.root-in-sets.ensures ∙ rw c.in_ok-from_seed.ensures (ap (λ (s : List ℕ). ring_root s c.args.height) seed) in
+    let root = c.in_ok-root.ensures ∙ ap (λ (s : List ℕ). ring_root (set_seed s) c.args.height) before.state in
     record {
-      state = c.step-next.ensures.state ∙ ap next_state before.state ∙ sym (state_after-more c.args.state n);
+      state = c.next-state.ensures ∙ ap next_state before.state ∙ sym (state_after-more c.args.state n);
       roots = rw (set_roots-more c.args.state c.args.height n, ← root, ← before.roots) c.in_ok-push.ensures.items;
     }
 

@@ -15,6 +15,6 @@ roots-preserved c =
     record {
       all = length-set c.roots.found _ _ ∙ c.roots.invariant.all;
       there = there_after c.args.made.now c.roots.it-index none c.roots.found c.roots-test.true within c.roots.invariant.there;
-      each = λ seeds height made are.
-          found_after seeds height c.roots.found _ (All-get_or (IsMade seeds height) c.args.made.now c.roots.it-index _ c.roots-test.true made) (c.roots.invariant.each seeds height made are);
+      each = λ states height made are.
+          found_after states height c.roots.found _ (All-get_or (IsMade states height) c.args.made.now c.roots.it-index _ c.roots-test.true made) (c.roots.invariant.each states height made are);
     }

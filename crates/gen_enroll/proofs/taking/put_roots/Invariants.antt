@@ -7,5 +7,5 @@ abbrev pub invariant-roots : goal.invariant-roots
 invariant-roots l = record {
   all : length l.found ≡ length l.initial.found;
   there : AreThere (take l.it-index l.made) l.found;
-  each : (seeds : List (List ℕ)) (height : TreeHeight) → AreMade seeds height l.made → AreFound seeds height l.initial.found → AreFound seeds height l.found;
+  each : (states : List (List ℕ)) (height : TreeHeight) → AreMade states height l.made → AreFound states height l.initial.found → AreFound states height l.found;
 }

@@ -5,6 +5,6 @@ use Rattle.gen_enroll.specs.Taking.{AreMade}
 use Rattle.gen_enroll.proofs.taking.put_share.Goals as goal
 
 pub returns-clause-found : goal.returns-clause-found
-returns-clause-found c seeds height made are =
-    let own = subst (λ r. IfOk r (λ (m : _). AreMade seeds height m.items)) c.in-Ok.is made in
-    c.put_roots.ensures.found seeds height (subst (λ (m : List MadeRoot). AreMade seeds height m) (sym c.as_slice.ensures.value) own) are
+returns-clause-found c states height made are =
+    let own = subst (λ r. IfOk r (λ (m : _). AreMade states height m.items)) c.in-Ok.is made in
+    c.put_roots.ensures.found states height (subst (λ (m : List MadeRoot). AreMade states height m) (sym c.as_slice.ensures.value) own) are
