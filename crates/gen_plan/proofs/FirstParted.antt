@@ -78,7 +78,7 @@ leads_decides net faulty (suc edges) a b =
     Decides-like (leads net faulty (suc edges) a b) (onward_walk net faulty edges a b) (walk_onward net faulty edges a b)
     (Decides-below_or (onward net faulty edges a b) (Onward net faulty edges a b) (any_below (onward net faulty edges a b)) each refl (λ n. refl) net.generals)
 
-joined_decides : (net : Network) (faulty : List ℕ) (most a b : ℕ) → Decides (is_joined net faulty most a b) (IsJoinedBy net faulty most a b)
+pub joined_decides : (net : Network) (faulty : List ℕ) (most a b : ℕ) → Decides (is_joined net faulty most a b) (IsJoinedBy net faulty most a b)
 joined_decides net faulty most a b =
     let walks : Decides (is_joined net faulty most a b) ((edges : ℕ) × (edges < suc most) × IsWalk net faulty edges a b) =
     Decides-below_or (λ edges. leads net faulty edges a b) (λ edges. IsWalk net faulty edges a b) (any_below (λ edges. leads net faulty edges a b))
@@ -91,7 +91,7 @@ joined_decides net faulty most a b =
 abbrev pub Parted : Network → List ℕ → ℕ → ℕ → Type 0
 Parted net faulty a b = (a < b) × ((Contains faulty a → ⊥) × ((Contains faulty b → ⊥) × (IsJoinedBy net faulty net.diameter a b → ⊥)))
 
-parted_decides : (net : Network) (faulty : List ℕ) (a b : ℕ) → Decides (is_parted net faulty a b) (Parted net faulty a b)
+pub parted_decides : (net : Network) (faulty : List ℕ) (a b : ℕ) → Decides (is_parted net faulty a b) (Parted net faulty a b)
 unfolding is_parted
 parted_decides net faulty a b =
     let joined = is_joined net faulty net.diameter a b in
@@ -125,7 +125,7 @@ first_of_one net faulty a b is =
 
 module _ (net : Network) (faulty : List ℕ) where
   -- the least pair that is not joined is the first parted one
-  least_is_first : (a b : ℕ) → IsLeastApart net faulty net.diameter a b → Some (a, b) ≡ parted_pair net faulty
+  pub least_is_first : (a b : ℕ) → IsLeastApart net faulty net.diameter a b → Some (a, b) ≡ parted_pair net faulty
   unfolding parted_pair
   least_is_first a b is =
       let n = net.generals in
@@ -139,7 +139,7 @@ module _ (net : Network) (faulty : List ℕ) where
       sym (first_at (parted_from net faulty) n a (a, b) is.lesser.0 (none_below (parted_from net faulty) a above) row)
 
   -- where all are joined there is none
-  joined_is_none : AreJoinedBy net faulty net.diameter → None ≡ parted_pair net faulty
+  pub joined_is_none : AreJoinedBy net faulty net.diameter → None ≡ parted_pair net faulty
   unfolding parted_pair first_pair
   joined_is_none all =
       let n = net.generals in

@@ -3,6 +3,7 @@ pub mod Distances
 pub mod FirstParted
 pub mod Graphs
 pub mod Joined
+pub mod LeastParted
 pub mod MostNeighbours
 pub mod Pairs
 pub mod Sets

@@ -22,7 +22,7 @@ range_at a (suc k) n =
     let f : a + 1 + k ≡ a + suc k = omega arith in
     ap (range_with_len a) e ∙ ap (λ r. a ∷ r) (range_at (a + 1) k n) ∙ ap (λ x. a ∷ (range_with_len (a + 1) k ++ x ∷ range_with_len (x + 1) n)) f
 
-none_is_not_some : (pair : ℕ × ℕ) → None ≡ Some pair → ⊥
+pub none_is_not_some : (pair : ℕ × ℕ) → None ≡ Some pair → ⊥
 none_is_not_some pair e = cc
 
 first_before : (xs ys : List (ℕ × ℕ)) (pair : ℕ × ℕ) → first_pair xs ≡ Some pair → first_pair (xs ++ ys) ≡ Some pair
