@@ -309,8 +309,8 @@ uint32_t sm_node_state_set(const uint8_t state[68], uint32_t *set) SM_CALL(1, 2)
 uint32_t sm_node_state_seed(const uint8_t state[68], const uint8_t system[32], uint8_t seed[32]) SM_CALL(1, 2, 3);
 
 /* Makes the record of a later set, or of the same, in the place of a record: for the next set, or for a node that was
-   down. No seed of an earlier set can be made of it. The call hashes once for each set between. The last number of a
-   set is 2^32 - 1, and a system has at most 2^20 sets.
+   down. Of an earlier set it has no seed, as far as nobody finds what a SHA-256 was made of, and no older record is left.
+   The call hashes once for each set between. The last number of a set is 2^32 - 1, and a system has at most 2^20 sets.
 
      SM_MISUSE   the set is earlier than the record's, which stays as it is
 

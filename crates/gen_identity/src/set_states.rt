@@ -9,8 +9,8 @@ use std::marker::Model;
 
 /// A state of a secret, the number of its set, and the id of the system whose runs it signs. A contract sees all three.
 ///
-/// A node keeps the newest alone: no seed of a set with a lower number can be made from it. A secret serves one system:
-/// the same set in two systems would sign twice under one key.
+/// A node keeps the newest alone: as far as SHA-256 is one-way, it has no seed of a set with a lower number. A secret serves
+/// one system: the same set in two systems would sign twice under one key.
 #[derive(Drop)]
 pub struct NumberedState {
     number: u32,

@@ -117,8 +117,8 @@ none_is_joined net faulty e =
     let n = net.generals in
     let empty = none_first (flat_map (parted_from net faulty) (range_with_len 0 n)) e in
     all_joined net faulty net.diameter n (omega arith) (λ x y below l loyal_x loyal_y.
-        let none : parted_from net faulty x ≡ [] = none_each (parted_from net faulty) n empty x below in
-        joined_here net faulty x y l loyal_x loyal_y (none_each (parted_of net faulty x) n none y loyal_y.0))
+    let none : parted_from net faulty x ≡ [] = none_each (parted_from net faulty) n empty x below in
+    joined_here net faulty x y l loyal_x loyal_y (none_each (parted_of net faulty x) n none y loyal_y.0))
 
 pub some_is_least : (net : Network) (faulty : List ℕ) (a b : ℕ) → (parted_pair net faulty ≡ Some (a, b)) ↔ IsLeastApart net faulty net.diameter a b
 some_is_least net faulty a b = (first_is_least net faulty a b, λ is. sym (least_is_first net faulty a b is))

@@ -14,7 +14,7 @@ levels_more levels xs i o d lt is all here =
     let last : (length (get_or xs i d).opening == levels) ≡ true = subst (λ (x : OpenedRoot). (length x.opening == levels) ≡ true) is here in
     list_all_more (λ (x : OpenedRoot). length x.opening == levels) xs i d lt ∙ rw (all, last) refl
 
-all_more : {X : Type 0} (P : X → Type 0) (xs : List X) (x : X) → AllByRecursion P xs → P x → AllByRecursion P (xs ++ x ∷ [])
+pub all_more : {X : Type 0} (P : X → Type 0) (xs : List X) (x : X) → AllByRecursion P xs → P x → AllByRecursion P (xs ++ x ∷ [])
 all_more P [] x all here = (here, tt)
 all_more P (y ∷ xs) x all here = (all.0, all_more P xs x all.1 here)
 

@@ -1,5 +1,6 @@
 mod AdmissionLaws
 mod Apart
+pub mod FromSecrets
 mod Growing
 mod Moved
 mod RunHeaders

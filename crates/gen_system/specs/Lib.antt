@@ -3,7 +3,9 @@ pub mod Admissions
 pub mod Admitting
 pub mod Colliding
 pub mod FaultNumber
+pub mod Prefixes
 pub mod RunNets
 pub mod Runs
+pub mod Secrets
 pub mod SystemReading
 pub mod Systems

@@ -1,9 +1,8 @@
 //! Two texts with one hash, where two admissions of one system admit two headers for one run.
 ghost use Rattle.std.specs.Prelude.{◌≡◌, ◌≢◌, ◌<◌, ◌↔◌, IsTrue, IfOk};
-ghost use Rattle.gen_ots.specs.Colliding.{AreColliding};
 ghost use Rattle.gen_system.specs.Admissions.{root_in};
 ghost use Rattle.gen_system.specs.Admitting.{HoldsOf};
-ghost use Rattle.gen_system.specs.Colliding.{AdmitTwo};
+ghost use Rattle.gen_system.specs.Colliding.{AdmitTwo, AreTextsOfHeaders};
 
 use crate::admissions::Admission;
 use crate::system_writing::text_of_id;
@@ -27,7 +26,7 @@ fn same_root(first: &Admission, second: &Admission, node: GeneralNo) -> bool
     first.opened_of(node).root == second.opened_of(node).root
 }
 
-/// Returns two different texts with one SHA-256, from two roots of one set of a node, which both are shown.
+/// Returns the two texts of a node's tree that its openings of two roots of one set show.
 fn collide_at(
     alloc: Global,
     first: &Admission,
@@ -40,7 +39,7 @@ fn collide_at(
     requires first { HoldsOf first.now node }
     requires second { HoldsOf second.now node }
     requires differ { root_in first.now node ≢ root_in second.now node }
-    ensures { IfOk result (λ texts. AreColliding texts.0.items texts.1.items) }
+    ensures { IfOk result (λ texts. AreTextsOfHeaders first.now second.now texts.0.items texts.1.items) }
 {
     let (one, other) = (first.opened_of(node), second.opened_of(node));
     let found = collide(
@@ -58,8 +57,8 @@ fn collide_at(
 /// Returns two different texts with one SHA-256, from two admissions that admit two headers for one run, under one
 /// system id.
 ///
-/// They are the texts of both ids if the systems differ. Else a node's identity was opened to two roots, and they are
-/// two texts of its tree.
+/// They are the texts of both ids if the systems differ. Else a node opened its identity to two roots of one set, and they
+/// are the texts of its tree that both openings hash where they first come to one node.
 ///
 /// # Errors
 ///
@@ -71,7 +70,7 @@ pub fn collide_headers(
     second: &Admission,
 ) -> Result<(Vec<u8>, Vec<u8>), AllocError>
     requires { AdmitTwo run first.now second.now }
-    ensures { IfOk result (λ texts. AreColliding texts.0.items texts.1.items) }
+    ensures { IfOk result (λ texts. AreTextsOfHeaders first.now second.now texts.0.items texts.1.items) }
 {
     let text = text_of_id(alloc, first.system())?;
     let other_text = text_of_id(alloc, second.system())?;

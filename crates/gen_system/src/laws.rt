@@ -7,7 +7,9 @@ ghost use Rattle.gen_net.specs.Header.{RunHeader};
 ghost use Rattle.gen_system.specs.Admissions.{SetAdmission, IsAdmission, admission_spelling};
 ghost use Rattle.gen_system.specs.Admitting.{Admits, Holds, header_of_run};
 ghost use Rattle.gen_system.specs.Colliding.{TwoHeadersTell};
+ghost use Rattle.gen_system.specs.Prefixes.{AllPrefixesDiffer};
 ghost use Rattle.gen_system.specs.Runs.{general_of, node_of, run_count_of, set_of_run};
+ghost use Rattle.gen_system.specs.Secrets.{SecretsLead};
 ghost use Rattle.gen_system.specs.Systems.{RunSystem, IsSystem, system_id_of, system_spelling};
 
 /// States that each system has one spelling, and that no spelling of a system is the beginning of another.
@@ -60,4 +62,16 @@ pub fn runs_are_admitted()
 /// header, as long as nobody finds two texts with one SHA-256. `collide_headers` finds the texts in both cases.
 pub fn two_headers_tell()
     ensures { TwoHeadersTell }
+{}
+
+/// States that the first bytes of the sixteen kinds of hashed texts differ: the eleven of runs, seeds of sets, states of a
+/// secret, leaves and nodes of identities, and systems. So no text of one kind is a text of another.
+pub fn all_prefixes_differ()
+    ensures { AllPrefixesDiffer }
+{}
+
+/// States that what nodes make of their secrets leads to the header of each run of their system. The admission holds, and
+/// admits that header, and the root of the general that a node is has the keys that the node makes of its secret.
+pub fn secrets_lead_to_headers()
+    ensures { SecretsLead }
 {}

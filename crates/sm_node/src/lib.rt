@@ -351,7 +351,7 @@ pub extern "C" fn sm_node_state_seed(
 }
 
 /// Puts the record of a later set, or of the same, in the place of a record. It returns 0, or 2 if the set is an earlier
-/// one, and the record stays. No seed of an earlier set can be made of the new record.
+/// one, and the record stays. The new record has no seed of an earlier set, as far as SHA-256 is one-way.
 #[unsafe(no_mangle)]
 pub extern "C" fn sm_node_state_advance(state: &mut [u8; STATE_BYTES], set: u32) -> u32
     ensures { Advances set state.old state.new result }
