@@ -1,5 +1,5 @@
--- Links tell the entries below them, or two texts collide.
-use Rattle.std.proofs.Common.{◌≡◌, ◌≢◌, ℕ, ◌⊎◌, inl, inr, List, [], ◌∷◌, ◌++◌, length, take, drop, refl, sym, ap, ◌∙◌, arith}
+-- Links tell the entries below them, or the texts collide that were hashed at one place.
+use Rattle.std.proofs.Common.{◌≡◌, ◌≢◌, ℕ, suc, ◌⊎◌, inl, inr, List, [], ◌∷◌, ◌++◌, length, take, drop, refl, sym, ap, ◌∙◌, arith}
 use Rattle.std.specs.Bool.{nat_eq}
 use Rattle.std.specs.List.{AllByRecursion}
 use Rattle.std.specs.Cmp.Lexicographic.{pointwise, same_text, other_text}
@@ -11,8 +11,9 @@ use Rattle.gen_net.specs.Header.{RunHeader, IsHeader}
 use Rattle.gen_log.specs.declared.entries.Entry.{Entry}
 use Rattle.gen_log.specs.Entry.{IsEntryOf, entry_spelling}
 use Rattle.gen_log.specs.Links.{next_link, link_behind}
-use Rattle.gen_convict.specs.Refuting.{link_text}
-use Rattle.gen_convict.specs.Laws.{OneLinkText, Colliding, LinksTell}
+use Rattle.gen_ots.specs.Colliding.{AreColliding}
+use Rattle.gen_convict.specs.LinkTexts.{link_text, IsLinkTextAt}
+use Rattle.gen_convict.specs.Laws.{OneLinkText, LinksTell, OneTextOfPlace}
 
 -- lists of numbers are the same or not
 pub same_or_not : (xs ys : List ℕ) → (xs ≡ ys) ⊎ (xs ≢ ys)
@@ -42,14 +43,51 @@ one_text one h a b e f ok wide_a wide_b is_e is_f same =
     (links, one_entry one h e f ok is_e is_f spellings)
 
 -- one step: where the links behind are equal, all below is, or the texts collide
-pub step_tells : OneEntry → (h : RunHeader) (a b : List ℕ) (e f : Entry) → IsHeader h → length a ≡ 32 → length b ≡ 32 → IsEntryOf h e → IsEntryOf h f → next_link a e ≡ next_link b f → ((a ≡ b) × (e ≡ f)) ⊎ Colliding
+pub step_tells : OneEntry → (h : RunHeader) (a b : List ℕ) (e f : Entry) → IsHeader h → length a ≡ 32 → length b ≡ 32 → IsEntryOf h e → IsEntryOf h f → next_link a e ≡ next_link b f → ((a ≡ b) × (e ≡ f)) ⊎ AreColliding (link_text a e) (link_text b f)
 step_tells one h a b e f ok wide_a wide_b is_e is_f hash = elim (same_or_not (link_text a e) (link_text b f)) [
   | inl same ↦ inl (one_text one h a b e f ok wide_a wide_b is_e is_f same)
-  | inr differ ↦ inr (record { first = link_text a e; second = link_text b f; differ = differ; hash = hash })
+  | inr differ ↦ inr (differ, hash)
 ]
 
+-- texts at one place of two lists collide, with a link before each list
+record Meet (a b : List ℕ) (es fs : List Entry) : Type 0 where
+  one : List ℕ
+  other : List ℕ
+  place : ℕ
+  first : IsLinkTextAt a es place one
+  second : IsLinkTextAt b fs place other
+  collide : AreColliding one other
+
+here : (link : List ℕ) (e : Entry) (es : List Entry) → IsLinkTextAt link (e ∷ es) 0 (link_text link e)
+unfolding link_behind
+here link e es = record { before = []; entry = e; behind = es; parts = refl; count = refl; hashed = refl }
+
+further : (link : List ℕ) (e : Entry) (es : List Entry) (place : ℕ) (text : List ℕ) → IsLinkTextAt (next_link link e) es place text → IsLinkTextAt link (e ∷ es) (suc place) text
+unfolding link_behind
+further link e es place text at = record {
+  before = e ∷ at.before;
+  entry = at.entry;
+  behind = at.behind;
+  parts = ap (λ (xs : List Entry). e ∷ xs) at.parts;
+  count = ap suc at.count;
+  hashed = at.hashed;
+}
+
+meet_here : (a b : List ℕ) (e f : Entry) (es fs : List Entry) → AreColliding (link_text a e) (link_text b f) → Meet a b (e ∷ es) (f ∷ fs)
+meet_here a b e f es fs collide = record { one = link_text a e; other = link_text b f; place = 0; first = here a e es; second = here b f fs; collide = collide }
+
+meet_further : (a b : List ℕ) (e f : Entry) (es fs : List Entry) → Meet (next_link a e) (next_link b f) es fs → Meet a b (e ∷ es) (f ∷ fs)
+meet_further a b e f es fs m = record {
+  one = m.one;
+  other = m.other;
+  place = suc m.place;
+  first = further a e es m.place m.one m.first;
+  second = further b f fs m.place m.other m.second;
+  collide = m.collide;
+}
+
 -- with two links before, of which nothing is known
-walk : OneEntry → (h : RunHeader) (a b : List ℕ) (es fs : List Entry) → IsHeader h → length a ≡ 32 → length b ≡ 32 → AllByRecursion (IsEntryOf h) es → AllByRecursion (IsEntryOf h) fs → length es ≡ length fs → link_behind a es ≡ link_behind b fs → ((a ≡ b) × (es ≡ fs)) ⊎ Colliding
+walk : OneEntry → (h : RunHeader) (a b : List ℕ) (es fs : List Entry) → IsHeader h → length a ≡ 32 → length b ≡ 32 → AllByRecursion (IsEntryOf h) es → AllByRecursion (IsEntryOf h) fs → length es ≡ length fs → link_behind a es ≡ link_behind b fs → ((a ≡ b) × (es ≡ fs)) ⊎ Meet a b es fs
 unfolding link_behind
 walk one h a b [] [] ok wide_a wide_b is_es is_fs len hash = inl (hash, refl)
 walk one h a b [] (f ∷ fs) ok wide_a wide_b is_es is_fs len hash = absurd (omega (arith, len))
@@ -57,9 +95,9 @@ walk one h a b (e ∷ es) [] ok wide_a wide_b is_es is_fs len hash = absurd (ome
 walk one h a b (e ∷ es) (f ∷ fs) ok wide_a wide_b is_es is_fs len hash =
     let shorter : length es ≡ length fs = omega (arith, len) in
     elim (walk one h (next_link a e) (next_link b f) es fs ok (length-sha256 (link_text a e)) (length-sha256 (link_text b f)) is_es.1 is_fs.1 shorter hash) [
-      | inr c ↦ inr c
+      | inr m ↦ inr (meet_further a b e f es fs m)
       | inl same ↦ elim (step_tells one h a b e f ok wide_a wide_b is_es.0 is_fs.0 same.0) [
-        | inr c ↦ inr c
+        | inr c ↦ inr (meet_here a b e f es fs c)
         | inl below ↦ inl (below.0, ap (λ x. x ∷ es) below.1 ∙ ap (λ xs. f ∷ xs) same.1)
       ]
     ]
@@ -67,5 +105,26 @@ walk one h a b (e ∷ es) (f ∷ fs) ok wide_a wide_b is_es is_fs len hash =
 pub links_tell : OneEntry → LinksTell
 links_tell one h link es fs ok wide is_es is_fs len hash = elim (walk one h link link es fs ok wide wide is_es is_fs len hash) [
   | inl same ↦ inl same.1
-  | inr c ↦ inr c
+  | inr m ↦ inr (m.one, m.other, record { place = m.place; first = m.first; second = m.second; collide = m.collide })
 ]
+
+-- ---- one text of a place
+
+entry_or : Entry → List Entry → Entry
+entry_or d [] = d
+entry_or d (e ∷ es) = e
+
+front_at : (link : List ℕ) (es : List Entry) (place : ℕ) (text : List ℕ) (at : IsLinkTextAt link es place text) → at.before ≡ take place es
+front_at link es place text at =
+    sym (take-append_seam at.before (at.entry ∷ at.behind)) ∙ ap (λ n. take n (at.before ++ at.entry ∷ at.behind)) at.count ∙ ap (take place) (sym at.parts)
+
+entry_at : (link : List ℕ) (es : List Entry) (place : ℕ) (text : List ℕ) (at : IsLinkTextAt link es place text) (d : Entry) → at.entry ≡ entry_or d (drop place es)
+unfolding entry_or
+entry_at link es place text at d =
+    ap (entry_or d) (sym (drop-append_seam at.before (at.entry ∷ at.behind)) ∙ ap (λ n. drop n (at.before ++ at.entry ∷ at.behind)) at.count ∙ ap (drop place) (sym at.parts))
+
+pub one_text_of_place : OneTextOfPlace
+one_text_of_place link es place a b first second =
+    let fronts : first.before ≡ second.before = front_at link es place a first ∙ sym (front_at link es place b second) in
+    let entries : first.entry ≡ second.entry = entry_at link es place a first first.entry ∙ sym (entry_at link es place b second first.entry) in
+    first.hashed ∙ ap (λ xs. link_text (link_behind link xs) first.entry) fronts ∙ ap (link_text (link_behind link second.before)) entries ∙ sym second.hashed

@@ -1,7 +1,8 @@
 -- Two walks over entries, one entry further.
-use Rattle.std.proofs.Common.{◌≡◌, ℕ, ◌+◌, ◌<◌, zero, suc, List, [], ◌∷◌, ◌++◌, length, get_or, take, refl, sym, ap, subst, ◌∙◌, arith}
+use Rattle.std.proofs.Common.{◌≡◌, ℕ, ◌+◌, ◌<◌, zero, suc, List, [], ◌∷◌, ◌++◌, length, get_or, take, drop, refl, sym, ap, subst, ◌∙◌, arith}
 use Rattle.std.specs.List.{AllByRecursion}
 use Rattle.std.proofs.Math.Seq.{take-suc}
+use Rattle.std.proofs.lemmas.List.{length-take-le}
 use Rattle.sha2.specs.Sha256.{sha256}
 use Rattle.sha2.proofs.Facts256.{length-sha256}
 use Rattle.gen_net.specs.Header.{RunHeader, IsHeader}
@@ -9,7 +10,7 @@ use Rattle.gen_log.specs.declared.entries.Entry.{Entry}
 use Rattle.gen_log.specs.Entry.{IsEntryOf}
 use Rattle.gen_chain.specs.declared.statements.HeadText.{HeadText}
 use Rattle.gen_log.specs.Links.{first_link, next_link, link_behind, link_over, head_over}
-use Rattle.gen_convict.specs.Refuting.{link_text}
+use Rattle.gen_convict.specs.LinkTexts.{link_text, IsLinkTextAt}
 use Rattle.gen_convict.specs.Laws.{OneLinkText}
 
 pub no_links : (link : List ℕ) → link ≡ link_behind link []
@@ -25,6 +26,11 @@ take_more : {X : Type 0} (xs : List X) (i : ℕ) (x : X) → i < length xs → x
 take_more xs i x below is =
     let e : i + 1 ≡ suc i = omega arith in
     ap (λ n. take n xs) e ∙ take-suc xs i x below ∙ ap (λ y. take i xs ++ y ∷ []) (sym is)
+
+split_at : {X : Type 0} (xs : List X) (i : ℕ) (x : X) → i < length xs → x ≡ get_or xs i x → xs ≡ take i xs ++ x ∷ drop (suc i) xs
+split_at [] i x below is = absurd (omega (arith, below))
+split_at (y ∷ ys) zero x below is = ap (λ z. z ∷ ys) (sym is)
+split_at (y ∷ ys) (suc i) x below is = ap (λ zs. y ∷ zs) (split_at ys i x (omega (arith, below)) is)
 
 all_at : {X : Type 0} (P : X → Type 0) (xs : List X) (i : ℕ) (x : X) → AllByRecursion P xs → i < length xs → P (get_or xs i x)
 all_at P [] i x all below = absurd (omega (arith, below))
@@ -42,6 +48,17 @@ link_on first before link text es i e below is was filled hashed =
     ∙ ap (λ l. next_link l e) was
     ∙ sym (one_more first (take i es) e)
     ∙ ap (link_behind first) (sym (take_more es i e below is))
+
+-- the text that was hashed at index i is that of place i
+pub text_at : (first before text : List ℕ) (es : List Entry) (i : ℕ) (e : Entry) → i < length es → e ≡ get_or es i e → before ≡ link_behind first (take i es) → text ≡ link_text before e → IsLinkTextAt first es i text
+text_at first before text es i e below is was filled = record {
+  before = take i es;
+  entry = e;
+  behind = drop (suc i) es;
+  parts = split_at es i e below is;
+  count = length-take-le i es (omega (arith, below));
+  hashed = filled ∙ ap (λ l. link_text l e) was;
+}
 
 pub wide : (link text : List ℕ) → link ≡ sha256 text → length link ≡ 32
 wide link text is = ap length is ∙ length-sha256 text

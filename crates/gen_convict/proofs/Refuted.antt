@@ -21,10 +21,11 @@ use Rattle.gen_local.specs.Erased.{erased}
 use Rattle.gen_local.specs.SignedTexts.{stated, head_in}
 use Rattle.gen_convict.specs.declared.run_texts.RunText.{RunText}
 use Rattle.gen_convict.specs.Across.{IsAcrossFrom}
-use Rattle.gen_convict.specs.AcrossAnswers.{HeadersCollide, run_id_text}
+use Rattle.gen_convict.specs.AcrossAnswers.{HeadersCollide}
 use Rattle.gen_convict.specs.Accused.{TextVerifies, AreUnlike, command}
 use Rattle.gen_convict.specs.Contradictions.{IsSealedLogOf, Claim, TwoTexts, TwoOrders, MissingFromLog, DepartingLog, AcrossRuns}
-use Rattle.gen_convict.specs.Refuting.{IsOwnLog, IsOwnLogOfOther, IsOwnLogFor, HasText, IsHeadIn, IsTextIn, Refutation, Forged, Collision, IsForged, IsForgedIn, IsRefutation, HasHeaders}
+use Rattle.gen_convict.specs.LinkTexts.{LogsCollide}
+use Rattle.gen_convict.specs.Refuting.{IsOwnLog, IsOwnLogOfOther, IsOwnLogFor, HasText, IsHeadIn, IsTextIn, Refutation, Forged, Collision, IsForged, IsForgedIn, IsCollisionIn, IsRefutation, HasHeaders, run_id_text}
 use Rattle.gen_convict.specs.Laws.{LinksTell, Refutes}
 use Rattle.gen_convict.proofs.Followers.{one_statement, one_order, nowhere}
 use Rattle.gen_convict.proofs.Linked.{same_or_not}
@@ -32,6 +33,10 @@ use Rattle.gen_convict.proofs.Linked.{same_or_not}
 -- of this claim each text that is forged answers
 abbrev Answers : RunHeader → ℕ → Claim → RunLog → Type 0
 Answers h g claim own = (text : SignedText) → IsForged h g claim own text → IsForgedIn h g claim own text
+
+-- and so do texts of links of its log and of the own log that collide
+abbrev AnswersByLinks : RunHeader → ℕ → Claim → RunLog → List ℕ → Type 0
+AnswersByLinks h g claim own bytes = (a b : List ℕ) → LogsCollide h g own bytes a b → IsCollisionIn h g claim own a b
 
 abbrev Answered : RunHeader → ℕ → Claim → RunLog → Type 0
 Answered h accused claim own = (answer : Refutation) × IsRefutation h accused claim own answer
@@ -168,9 +173,12 @@ pub apart_departing : (h : RunHeader) (g : ℕ) (own log : RunLog) (p : ℕ) →
 apart_departing h g own log p l departs =
     λ e. nowhere h.network g (erased own.entries) p l (subst (λ (es : List Entry). DepartsAt h.network g (erased es) p) e departs)
 
-other_log : LinksTell → (h : RunHeader) (g : ℕ) (claim : Claim) (own : RunLog) (bytes : List ℕ) (log : RunLog) → IsHeader h → IsOwnLog h g own → IsSealedLogOf h g bytes log → (log.entries ≢ own.entries) → ((text : SignedText) → IsHeadIn h g bytes text → IsTextIn h g claim text) → Answers h g claim own → Answered h g claim own
+first_wide : (h : RunHeader) (g : ℕ) → length (first_link h g) ≡ 32
 unfolding first_link
-other_log tell h g claim own bytes log ok is_own sealed differ inside wrap = elim (head_or_not (head_over h g log.entries) (head_over h g own.entries)) [
+first_wide h g = length-sha256 _
+
+other_log : LinksTell → (h : RunHeader) (g : ℕ) (claim : Claim) (own : RunLog) (bytes : List ℕ) (log : RunLog) → IsHeader h → IsOwnLog h g own → IsSealedLogOf h g bytes log → (log.entries ≢ own.entries) → ((text : SignedText) → IsHeadIn h g bytes text → IsTextIn h g claim text) → Answers h g claim own → AnswersByLinks h g claim own bytes → Answered h g claim own
+other_log tell h g claim own bytes log ok is_own sealed differ inside wrap by_links = elim (head_or_not (head_over h g log.entries) (head_over h g own.entries)) [
   | inr ne ↦ (
     Forged (head_in h g log),
     wrap (head_in h g log) (record {
@@ -182,16 +190,20 @@ other_log tell h g claim own bytes log ok is_own sealed differ inside wrap = eli
   | inl same ↦
       let len : length log.entries ≡ length own.entries = ap (λ (x : HeadText). x.entries) same in
       let last : link_over h g log.entries ≡ link_over h g own.entries = ap (λ (x : HeadText). x.last_link) same in
-      elim (tell h (first_link h g) log.entries own.entries ok (length-sha256 _) sealed.reads.fits.entries is_own.reads.entries len last) [
+      elim (tell h (first_link h g) log.entries own.entries ok (first_wide h g) sealed.reads.fits.entries is_own.reads.entries len last) [
         | inl e ↦ absurd (differ e)
-        | inr c ↦ (Collision c.first c.second, (c.differ, c.hash))
+        | inr c ↦ (Collision c.0 c.1, by_links c.0 c.1 (record { log = log; sealed = sealed; heads = same; texts = c.2 }))
       ]
 ]
 
 -- two texts of two runs are answered by the one of the run that the log isn't of, or by the headers
 across : HeadersCollide → (h : RunHeader) (g : ℕ) (x y : RunText) (own : RunLog) → HasHeaders (AcrossRuns x y) → IsAcrossFrom h g x y → Answered h g (AcrossRuns x y) own
 across collide h g x y own headers holds = elim (same_or_not (run_id_of x.header) (run_id_of y.header)) [
-  | inl same ↦ (Collision (run_id_text x.header) (run_id_text y.header), collide x.header y.header headers.0 headers.1 holds.across.rivals.runs.unequal same)
+  | inl same ↦
+      let unequal = holds.across.rivals.runs.unequal in (
+        Collision (run_id_text x.header) (run_id_text y.header),
+        record { differ = unequal; ids = same; first = refl; second = refl; collide = collide x.header y.header headers.0 headers.1 unequal same },
+      )
   | inr differ ↦ elim (same_or_not own.run_id (run_id_of x.header)) [
     | inr other ↦ (Forged x.text, inl (record { is = refl; verifies = holds.across.one; other = other }))
     | inl of_first ↦ (Forged y.text, inr (record { is = refl; verifies = holds.across.other; other = λ e. differ (sym of_first ∙ e) }))
@@ -212,9 +224,9 @@ refutes tell collide h accused (TwoOrders v a w b) own ok headers holds log =
     (not_both_orders h accused own holds.commander is_own.followed v w holds.different) (λ t f. f)
 refutes tell collide h accused (MissingFromLog bytes statement signature) own ok headers holds log = let is_own = of_this_run h accused own (MissingFromLog bytes statement signature) (λ n. n) log in elim (has_sign_or_not own statement) [
   | inr none ↦ (Forged (stated statement.order statement.path accused signature), record { inside = inl refl; verifies = holds.verifies; absent = none })
-  | inl has ↦ other_log tell h accused (MissingFromLog bytes statement signature) own bytes holds.log ok is_own holds.his (apart_missing own holds.log statement has holds.missing) (λ text i. inr i) (λ t f. f)
+  | inl has ↦ other_log tell h accused (MissingFromLog bytes statement signature) own bytes holds.log ok is_own holds.his (apart_missing own holds.log statement has holds.missing) (λ text i. inr i) (λ t f. f) (λ a b c. c)
 ]
 refutes tell collide h accused (DepartingLog bytes p) own ok headers holds log =
     let is_own = of_this_run h accused own (DepartingLog bytes p) (λ n. n) log in
-    other_log tell h accused (DepartingLog bytes p) own bytes holds.log ok is_own holds.his (apart_departing h accused own holds.log p is_own.followed holds.departs) (λ text i. i) (λ t f. f)
+    other_log tell h accused (DepartingLog bytes p) own bytes holds.log ok is_own holds.his (apart_departing h accused own holds.log p is_own.followed holds.departs) (λ text i. i) (λ t f. f) (λ a b c. c)
 refutes tell collide h accused (AcrossRuns x y) own ok headers holds log = across collide h accused x y own headers holds

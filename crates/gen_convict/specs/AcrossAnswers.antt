@@ -1,22 +1,19 @@
 -- What answers two texts of two runs: the text of the run that the log isn't of, or two headers with one
 -- hash.
-use Rattle.std.specs.Prelude.{ℕ, ◌≡◌, ◌≢◌, ◌⊎◌, List, ◌∷◌}
-use Rattle.gen_net.specs.Header.{RunHeader, IsHeader, header_spelling, run_id_of, run_id_prefix}
+use Rattle.std.specs.Prelude.{ℕ, ◌≡◌, ◌≢◌, ◌⊎◌}
+use Rattle.gen_net.specs.Header.{RunHeader, IsHeader, run_id_of}
 use Rattle.gen_log.specs.Log.{RunLog}
 use Rattle.gen_convict.specs.declared.run_texts.RunText.{RunText}
 use Rattle.gen_convict.specs.Across.{IsOfOtherRun}
 use Rattle.gen_ots.specs.Colliding.{AreColliding}
-use Rattle.gen_convict.specs.Refuting.{Refutation, Forged, Collision}
+use Rattle.gen_convict.specs.Refuting.{Refutation, Forged, Collision, run_id_text, RunIdsCollide}
 
--- the answer is one of the two texts, of the run that the log isn't of, or two strings that collide
+-- the answer is one of the two texts, of the run that the log isn't of, or what is hashed for one run id of
+-- both headers
 abbrev pub IsAnswerAcross : ℕ → RunText → RunText → RunLog → Refutation → Type 0
 IsAnswerAcross general x y own (Forged text) =
     IsOfOtherRun general x own text ⊎ IsOfOtherRun general y own text
-IsAnswerAcross general x y own (Collision a b) = AreColliding a b
-
--- the bytes that are hashed for a run id: the prefix and the header's spelling
-abbrev pub run_id_text : RunHeader → List ℕ
-run_id_text h = run_id_prefix ∷ header_spelling h
+IsAnswerAcross general x y own (Collision a b) = RunIdsCollide x.header y.header a b
 
 -- if two different headers have one run id, the bytes that are hashed for it collide
 abbrev pub HeadersCollide : Type 0

@@ -1,13 +1,11 @@
 -- What answers a claim against a general that kept a follower's log: a text that the log doesn't have, or two
--- texts with one hash.
-use Rattle.std.specs.Prelude.{ℕ, ◌≡◌, ◌⊎◌, List, ◌∷◌, ◌++◌}
+-- texts of the claim and of that log with one hash.
+use Rattle.std.specs.Prelude.{ℕ, ◌≡◌, ◌≢◌, ◌⊎◌, List, ◌∷◌}
 use Rattle.gen_types.specs.Spelled.{Spells}
 use Rattle.gen_ots.specs.Colliding.{AreColliding}
 use Rattle.gen_net.specs.Departs.{IsFollowersLog}
-use Rattle.gen_net.specs.Header.{RunHeader, IsHeader, run_id_of}
-use Rattle.gen_log.specs.declared.entries.Entry.{Entry}
-use Rattle.gen_log.specs.Entry.{entry_spelling}
-use Rattle.gen_log.specs.Links.{link_prefix, head_over, HeadVerifies}
+use Rattle.gen_net.specs.Header.{RunHeader, IsHeader, header_spelling, run_id_of, run_id_prefix}
+use Rattle.gen_log.specs.Links.{head_over, HeadVerifies}
 use Rattle.gen_log.specs.Log.{RunLog, IsLog, log_spelling}
 use Rattle.gen_log.specs.Signing.{HasSign}
 use Rattle.gen_local.specs.declared.texts.SignedText.{SignedText}
@@ -18,6 +16,7 @@ use Rattle.gen_local.specs.SignedTexts.{stated, head_in}
 use Rattle.gen_convict.specs.Accused.{TextVerifies, command}
 use Rattle.gen_convict.specs.Across.{IsOfOtherRun}
 use Rattle.gen_convict.specs.Contradictions.{Claim, TwoTexts, TwoOrders, MissingFromLog, DepartingLog, AcrossRuns}
+use Rattle.gen_convict.specs.LinkTexts.{LogsCollide}
 
 -- a log of this run that the general could have kept by following, whose head verifies
 pub record IsOwnLog (h : RunHeader) (general : ℕ) (own : RunLog) : Type 0 where
@@ -68,14 +67,31 @@ IsForgedIn h accused (DepartingLog bytes p) own text = IsForged h accused (Depar
 IsForgedIn h accused (AcrossRuns x y) own text =
     IsOfOtherRun accused x own text ⊎ IsOfOtherRun accused y own text
 
--- the answer refutes the claim: a text of it is forged, or two strings collide
+-- the bytes that are hashed for a run id: the prefix and the header's spelling
+abbrev pub run_id_text : RunHeader → List ℕ
+run_id_text h = run_id_prefix ∷ header_spelling h
+
+-- two headers are not the same and have one run id, and the strings are what is hashed for it, which collides
+pub record RunIdsCollide (h k : RunHeader) (a b : List ℕ) : Type 0 where
+  pub differ : h ≢ k
+  pub ids : run_id_of h ≡ run_id_of k
+  pub first : a ≡ run_id_text h
+  pub second : b ≡ run_id_text k
+  pub collide : AreColliding a b
+
+-- The strings are texts of the claim that collide: of links of its log and of the own log, or of the run ids
+-- of its two headers. A claim that has neither a log nor two headers has no such texts.
+abbrev pub IsCollisionIn : RunHeader → ℕ → Claim → RunLog → List ℕ → List ℕ → Type 0
+IsCollisionIn h accused (TwoTexts x y) own a b = ⊥
+IsCollisionIn h accused (TwoOrders v c w d) own a b = ⊥
+IsCollisionIn h accused (MissingFromLog bytes s signature) own a b = LogsCollide h accused own bytes a b
+IsCollisionIn h accused (DepartingLog bytes p) own a b = LogsCollide h accused own bytes a b
+IsCollisionIn h accused (AcrossRuns x y) own a b = RunIdsCollide x.header y.header a b
+
+-- the answer refutes the claim: a text of it is forged, or two texts of it collide
 abbrev pub IsRefutation : RunHeader → ℕ → Claim → RunLog → Refutation → Type 0
 IsRefutation h accused claim own (Forged text) = IsForgedIn h accused claim own text
-IsRefutation h accused claim own (Collision a b) = AreColliding a b
-
--- the bytes that are hashed for the link after an entry
-abbrev pub link_text : List ℕ → Entry → List ℕ
-link_text link e = link_prefix ∷ (link ++ entry_spelling e)
+IsRefutation h accused claim own (Collision a b) = IsCollisionIn h accused claim own a b
 
 -- the claim is of two runs, and the log is of the run that isn't the evidence's
 abbrev pub IsOwnLogOfOther : ℕ → Claim → RunLog → Type 0

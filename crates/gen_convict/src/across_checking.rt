@@ -2,8 +2,9 @@
 ghost use Rattle.std.specs.Prelude.{IsTrue, ◌≡◌, ◌<◌, ◌⊎◌, ◌↔◌, IfOk};
 ghost use Rattle.gen_net.specs.Header.{run_id_of};
 ghost use Rattle.gen_convict.specs.Across.{AreAcross, IsAcrossFrom};
-ghost use Rattle.gen_convict.specs.AcrossAnswers.{IsAnswerAcross, run_id_text};
+ghost use Rattle.gen_convict.specs.AcrossAnswers.{IsAnswerAcross};
 ghost use Rattle.gen_convict.specs.Answers.{answer_of};
+ghost use Rattle.gen_convict.specs.Refuting.{run_id_text};
 
 use crate::checking::text_verifies;
 use crate::laws::headers_collide;
@@ -60,8 +61,8 @@ fn hashed_header(alloc: Global, header: &Header) -> Result<Vec<u8>, AllocError>
 }
 
 /// Answers evidence of two texts of a general that contradict each other across runs. The answer is the text of the run
-/// that the general's own log isn't of. If both runs have one run id, the answer is the two strings of bytes that are
-/// hashed for it.
+/// that the general's own log isn't of. If both runs have one run id, the answer is what is hashed for it of the two
+/// headers: two texts with one SHA-256.
 ///
 /// # Errors
 ///

@@ -1,11 +1,10 @@
-//! Finds two strings of bytes with one hash, where links agree after entries that differ.
+//! Finds two texts of links with one hash, where links agree after entries that differ.
 ghost use Rattle.std.specs.Prelude.{◌≡◌, ◌≢◌, IfOk, OnOk, length};
 ghost use Rattle.std.specs.List.{AllByRecursion};
 ghost use Rattle.sha2.specs.Sha256.{sha256};
 ghost use Rattle.gen_log.specs.Entry.{IsEntryOf};
 ghost use Rattle.gen_log.specs.Links.{link_behind};
-ghost use Rattle.gen_ots.specs.Colliding.{AreColliding};
-ghost use Rattle.gen_convict.specs.Refuting.{link_text};
+ghost use Rattle.gen_convict.specs.LinkTexts.{link_text, LinkTextsCollide};
 
 use crate::laws::links_tell;
 use gen_log::{Entry, LINK_PREFIX, entry_bytes};
@@ -36,12 +35,12 @@ fn walk_on(alloc: Global, side: &mut Side, entry: &Entry) -> Result<(), AllocErr
     Ok(())
 }
 
-/// Returns two different strings of bytes with one SHA-256. The two lists of entries have one length and differ, and
-/// from the same first link both lead to the same last link.
+/// Returns the texts that are hashed for the links after two entries, at one place of two lists. The texts differ and
+/// have one SHA-256. The two lists of entries have one length and differ, and from the same first link both lead to the
+/// same last link.
 ///
-/// The strings are what was hashed at the first entry where the hashed bytes differ and the links after it agree. There
-/// is such an entry: equal hashed bytes have equal entries and equal links before them. It plays no part which of the
-/// two lists is the general's own.
+/// The place is the first one where the hashed texts differ and the links after it agree. There is such a place: equal
+/// texts have equal entries and equal links before them. It plays no part which of the two lists is the general's own.
 ///
 /// # Errors
 ///
@@ -58,7 +57,8 @@ pub fn collide(
     requires length { length own.now ≡ length other.now }
     requires links { link_behind first.now own.now ≡ link_behind first.now other.now }
     requires differ { own.now ≢ other.now }
-    ensures { IfOk result (λ pair. AreColliding pair.0.items pair.1.items) }
+    ensures { IfOk result
+        (λ pair. LinkTextsCollide first.now own.now other.now pair.0.items pair.1.items) }
 {
     // Reading the network makes the header's invariant known.
     let _net = header.net();

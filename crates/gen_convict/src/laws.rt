@@ -6,7 +6,7 @@ ghost use Rattle.gen_convict.specs.AcrossAnswers.{HeadersCollide};
 ghost use Rattle.gen_convict.specs.AcrossLaws.{TestsSharing, TestsRivals, OneLeaf, SlotsApart, FoundWhereHeld, FirstContradict, OneFirstAcross, FirstOfTwoRuns};
 ghost use Rattle.gen_convict.specs.EvidenceReading.{IsWhole, whole_evidence};
 ghost use Rattle.gen_convict.specs.EvidenceSpelling.{HeaderAndEvidence, whole_spelling};
-ghost use Rattle.gen_convict.specs.Laws.{OneStatementOfEach, OneOrderOfCommander, NowhereDeparts, OneLinkText, LinksTell, Refutes};
+ghost use Rattle.gen_convict.specs.Laws.{OneStatementOfEach, OneOrderOfCommander, NowhereDeparts, OneLinkText, LinksTell, OneTextOfPlace, LinkTextsAreBytes, Refutes, AnswersAreBytes};
 ghost use Rattle.gen_convict.specs.PairLaws.{FirstOfSubject, EarliestSubject, FirstCommand, OneOfEach, HasTwoTexts, OneFirstPair};
 ghost use Rattle.gen_convict.specs.RingLaws.{OneTextOfLeaf};
 ghost use Rattle.gen_convict.specs.FirstLaws.{TextsVerify, FirstHolds, GivenWhereHeld, OneClaim};
@@ -23,18 +23,25 @@ pub fn followers_logs()
 {}
 
 /// States that the bytes that are hashed for a link determine the link before it and the entry (`text`). So two lists
-/// with as many entries and equal links before and after them are equal, or two hashed texts collide (`entries`).
+/// with as many entries and equal links before and after them are equal, or the texts collide that are hashed for links
+/// at one place of both lists (`entries`). A list has one such text at each place (`one`), and the text is a list of bytes
+/// if what it is made of is (`bytes`).
 pub fn links_tell()
     ensures text { OneLinkText }
     ensures entries { LinksTell }
+    ensures one { OneTextOfPlace }
+    ensures bytes { LinkTextsAreBytes }
 {
     one_entry_spelling();
 }
 
 /// States that a claim that holds against a general has an answer if the general kept a follower's log. The answer is a
-/// text of the claim that this log doesn't have, or two strings of bytes with one hash.
+/// text of the claim that this log doesn't have, or two texts with one hash: of a link of the claim's log and of one of this
+/// log, or of the run ids of the claim's headers (`answered`). The two texts are lists of bytes if the claim and this log are
+/// (`bytes`).
 pub fn claims_are_refuted()
-    ensures { Refutes }
+    ensures answered { Refutes }
+    ensures bytes { AnswersAreBytes }
 {
     headers_collide();
     links_tell();

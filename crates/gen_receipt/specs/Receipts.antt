@@ -15,7 +15,7 @@ use Rattle.gen_log.specs.LogReading.{log_of}
 use Rattle.gen_local.specs.declared.texts.SignedText.{SignedText}
 use Rattle.gen_local.specs.declared.texts.Text.TheVariants.{OfHead}
 use Rattle.gen_convict.specs.Evidence.{IsSignature}
-use Rattle.gen_convict.specs.Refuting.{link_text}
+use Rattle.gen_convict.specs.LinkTexts.{link_text}
 use Rattle.gen_receipt.specs.declared.receipts.Receipt.{Receipt}
 
 -- the DECIDE of the receipt

@@ -45,8 +45,8 @@ fn has_head(header: &Header, receipt: &Receipt, own: &Log) -> bool
 }
 
 /// Answers a receipt that holds, and that has another decision than the log that its general kept by following. The
-/// answer is the head of the receipt, which verifies as the general's and isn't the head of that log, or two different
-/// strings of bytes with one hash.
+/// answer is the head of the receipt, which verifies as the general's and isn't the head of that log. Or the answer is what
+/// is hashed for the links after DECIDE, of the receipt and of the log: two different texts with one hash.
 ///
 /// # Errors
 ///

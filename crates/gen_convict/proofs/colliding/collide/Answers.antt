@@ -4,7 +4,7 @@ use Rattle.std.specs.Cmp.Lexicographic.{pointwise, same_text, other_text}
 use Rattle.gen_types.proofs.Lists.{bool_cases}
 use Rattle.gen_log.specs.Entry.{IsEntryOf}
 use Rattle.gen_convict.proofs.Linked.{same_or_not}
-use Rattle.gen_convict.proofs.Meeting.{no_links, link_on, tells_on, is_at, wide}
+use Rattle.gen_convict.proofs.Meeting.{no_links, link_on, tells_on, text_at, is_at, wide}
 use Rattle.gen_convict.proofs.colliding.collide.Goals as goal
 use Rattle.gen_convict.proofs.colliding.collide.Goals.{else-eq-via-else-eq, else-eq-via-then-eq+else-ne}
 
@@ -61,4 +61,24 @@ entries-preserved c =
       ];
       wide_left = wide left.link left.text.items hashed_left.link;
       wide_right = wide right.link right.text.items hashed_right.link;
+    }
+
+pub returns-then-ne : goal.returns-then-ne
+returns-then-ne c =
+    let i = c.entries.i in
+    let before = c.entries.invariant in
+    let left = c.walk_on.new.side in
+    let right = c.walk_on-in-entries.new.side in
+    let hashed_left = c.in_ok-walk_on.ensures in
+    let hashed_right = c.in_ok-walk_on-2.ensures in
+    let below : i < length c.args.other.now = omega (arith, c.requires.length, c.entries-test.true) in
+    let links = same_text left.link right.link (sym (sym c.eq.ensures ∙ c.if-eq.true)) in
+    record {
+      place = i;
+      first = text_at c.args.first.now c.entries.left.link left.text.items c.args.own.now i c.index-own-i.result c.entries-test.true c.index-own-i.is before.left hashed_left.text;
+      second = text_at c.args.first.now c.entries.right.link right.text.items c.args.other.now i c.index-other-i.result below c.index-other-i.is before.right hashed_right.text;
+      collide = (
+        λ same. opposite (sym c.ne.ensures ∙ c.if-ne.true) (ap not (same_pairs left.text.items right.text.items same)),
+        sym hashed_left.link ∙ links ∙ hashed_right.link,
+      );
     }

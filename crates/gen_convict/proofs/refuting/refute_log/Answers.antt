@@ -1,6 +1,6 @@
 use Rattle.std.proofs.Common.{◌≢◌, rules, sym, ap, ◌∙◌}
 use Rattle.gen_log.specs.Links.{head_over}
-use Rattle.gen_convict.proofs.Answering.{head_answered, the_other}
+use Rattle.gen_convict.proofs.Answering.{head_answered, links_answered, the_other}
 use Rattle.gen_convict.proofs.Meeting.{links_meet}
 use Rattle.gen_convict.proofs.refuting.refute_log.Goals as goal
 
@@ -30,3 +30,13 @@ collide-requires-clause-differ c = λ e.
 
 pub unreachable-requires : goal.unreachable-requires
 unreachable-requires c = let read = c.read_log.ensures.only c.requires.other.0 c.requires.other.1.reads in search (rules, read)
+
+pub returns : goal.returns
+returns c =
+    let h = c.args.header.now in
+    let g = c.args.general in
+    let own = c.args.own.now in
+    let other = c.in-Ok.log in
+    let found = the_other h g own c.args.bytes.now other c.net-net.ensures.header c.requires.other c.in-Ok.ensures.found in
+    let heads = sym c.head_of.ensures ∙ c.has_text.ensures.0 c.if-not-has_text.false in
+    links_answered h g own c.args.bytes.now other c.link_at-first.result c.entries.result.now c.entries-2.result.now c.in_ok-left.left.items c.in_ok-left.right.items found.0 heads c.link_at-first.ensures c.entries.ensures c.entries-2.ensures c.in_ok-left.ensures
