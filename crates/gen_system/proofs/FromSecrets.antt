@@ -14,7 +14,7 @@ use Rattle.gen_net.specs.declared.version.Version.{Version}
 use Rattle.gen_net.specs.declared.version.Version.TheVariants.{One, Two}
 use Rattle.gen_net.specs.Header.{height_of, root_of}
 use Rattle.gen_identity.specs.declared.identities.Identity.{Identity}
-use Rattle.gen_identity.specs.Openings.{IsOpening, Opens, siblings_above, siblings_of}
+use Rattle.gen_identity.specs.Openings.{Opens, siblings_above, siblings_of}
 use Rattle.gen_identity.specs.Sets.{identity_of_secret, set_roots}
 use Rattle.gen_identity.specs.States.{seed_after}
 use Rattle.gen_identity.specs.Tree.{set_node_over}
@@ -25,9 +25,9 @@ use Rattle.gen_system.specs.declared.admission_fault.AdmissionFault.TheVariants 
 use Rattle.gen_system.specs.declared.system_fault.SystemFault.TheVariants as systems
 use Rattle.gen_system.specs.AdmissionReading.{admission_at, whole_admission}
 use Rattle.gen_system.specs.Admissions.{SetAdmission, IsAdmission, IsOpenedRoot, admission_spelling, admission_with, have_levels, opening_in, root_in}
-use Rattle.gen_system.specs.Admitting.{Holds, HoldsOf, header_of_run}
+use Rattle.gen_system.specs.Admitting.{Holds, header_of_run}
 use Rattle.gen_system.specs.Runs.{general_of, node_of, run_count_of, runs_of_set, set_of_run}
-use Rattle.gen_system.specs.Secrets.{AreSecretsOf, LeadToHeader, SecretsLead, admission_for, opened_by, root_for}
+use Rattle.gen_system.specs.Secrets.{AreSecretsOf, SecretsLead, admission_for, opened_by, root_for}
 use Rattle.gen_system.specs.SystemReading.{system_at, whole_system}
 use Rattle.gen_system.specs.Systems.{RunSystem, IsSystem, identity_in, system_spelling}
 use Rattle.gen_system.proofs.Growing.{all_more, root_at}
