@@ -1,4 +1,6 @@
 pub mod Admitting
 pub mod Kinds
+pub mod Loops
+pub mod Many
 pub mod Refusal
 pub mod Sources
