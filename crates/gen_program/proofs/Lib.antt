@@ -1,3 +1,4 @@
 pub mod Among
 pub mod Headings
 pub mod Names
+pub mod Statuses
