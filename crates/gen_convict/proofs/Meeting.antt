@@ -1,17 +1,20 @@
 -- Two walks over entries, one entry further.
-use Rattle.std.proofs.Common.{◌≡◌, ℕ, ◌+◌, ◌<◌, zero, suc, List, [], ◌∷◌, ◌++◌, length, get_or, take, drop, refl, sym, ap, subst, ◌∙◌, arith}
+use Rattle.std.proofs.Common.{◌≡◌, ℕ, ◌+◌, ◌<◌, zero, suc, inl, inr, List, [], ◌∷◌, ◌++◌, length, get_or, take, drop, refl, sym, ap, subst, ◌∙◌, arith}
 use Rattle.std.specs.List.{AllByRecursion}
 use Rattle.std.proofs.Math.Seq.{take-suc}
+use Rattle.std.proofs.lemmas.Bool.{cases_lt}
 use Rattle.std.proofs.lemmas.List.{length-take-le}
 use Rattle.sha2.specs.Sha256.{sha256}
 use Rattle.sha2.proofs.Facts256.{length-sha256}
+use Rattle.gen_ots.specs.Colliding.{AreColliding}
 use Rattle.gen_net.specs.Header.{RunHeader, IsHeader}
 use Rattle.gen_log.specs.declared.entries.Entry.{Entry}
 use Rattle.gen_log.specs.Entry.{IsEntryOf}
 use Rattle.gen_chain.specs.declared.statements.HeadText.{HeadText}
 use Rattle.gen_log.specs.Links.{first_link, next_link, link_behind, link_over, head_over}
-use Rattle.gen_convict.specs.LinkTexts.{link_text, IsLinkTextAt}
+use Rattle.gen_convict.specs.LinkTexts.{link_text, IsLinkTextAt, AreApartAt}
 use Rattle.gen_convict.specs.Laws.{OneLinkText}
+use Rattle.gen_convict.proofs.Linked.{one_text_of_place}
 
 pub no_links : (link : List ℕ) → link ≡ link_behind link []
 unfolding link_behind
@@ -59,6 +62,18 @@ text_at first before text es i e below is was filled = record {
   count = length-take-le i es (omega (arith, below));
   hashed = filled ∙ ap (λ l. link_text l e) was;
 }
+
+-- where the texts of one place more don't collide, none before the next place do
+pub apart_more : (first : List ℕ) (es fs : List Entry) (i : ℕ) (s t : List ℕ) → IsLinkTextAt first es i s → IsLinkTextAt first fs i t → (AreColliding s t → ⊥) → ((before : ℕ) → before < i → AreApartAt first es fs before) → (before : ℕ) → before < i + 1 → AreApartAt first es fs before
+apart_more first es fs i s t at_s at_t apart rest before below = elim (cases_lt before i) [
+  | inl lt ↦ rest before lt
+  | inr le ↦
+      let same : before ≡ i = omega (arith, le, below) in
+      λ c d at_c at_d collide.
+      let is_c : c ≡ s = one_text_of_place first es i c s (subst (λ n. IsLinkTextAt first es n c) same at_c) at_s in
+      let is_d : d ≡ t = one_text_of_place first fs i d t (subst (λ n. IsLinkTextAt first fs n d) same at_d) at_t in
+      apart (subst (λ y. AreColliding s y) is_d (subst (λ x. AreColliding x d) is_c collide))
+]
 
 pub wide : (link text : List ℕ) → link ≡ sha256 text → length link ≡ 32
 wide link text is = ap length is ∙ length-sha256 text

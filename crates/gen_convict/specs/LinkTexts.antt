@@ -1,5 +1,5 @@
 -- What is hashed for the links of a log, and where two logs have different texts with one hash.
-use Rattle.std.specs.Prelude.{ℕ, ◌≡◌, List, ◌∷◌, ◌++◌, length}
+use Rattle.std.specs.Prelude.{ℕ, ◌≡◌, ◌<◌, List, ◌∷◌, ◌++◌, length}
 use Rattle.gen_ots.specs.Colliding.{AreColliding}
 use Rattle.gen_net.specs.Header.{RunHeader}
 use Rattle.gen_log.specs.declared.entries.Entry.{Entry}
@@ -22,16 +22,23 @@ pub record IsLinkTextAt (link : List ℕ) (entries : List Entry) (place : ℕ) (
   pub count : length before ≡ place
   pub hashed : text ≡ link_text (link_behind link before) entry
 
+-- what is hashed for the links after two entries, at this place of two lists, does not collide
+abbrev pub AreApartAt : List ℕ → List Entry → List Entry → ℕ → Type 0
+AreApartAt link es fs place =
+    (c d : List ℕ) → IsLinkTextAt link es place c → IsLinkTextAt link fs place d → AreColliding c d → ⊥
+
 -- The texts are what is hashed for the links after two entries, at one place of two lists, with one link
 -- before both lists. The texts differ, and the links after these entries, which are their hashes, are equal.
+-- It is the first such place.
 pub record LinkTextsCollide (link : List ℕ) (es fs : List Entry) (a b : List ℕ) : Type 0 where
   pub place : ℕ
   pub first : IsLinkTextAt link es place a
   pub second : IsLinkTextAt link fs place b
   pub collide : AreColliding a b
+  pub earlier : (before : ℕ) → before < place → AreApartAt link es fs before
 
 -- The bytes are a log that the general sealed, whose head is that of the general's own log. The texts are
--- what is hashed for a link of this log and for one of the own log, at one place, and they collide.
+-- what is hashed for a link of this log and for one of the own log, at the first place where they collide.
 pub record LogsCollide (h : RunHeader) (general : ℕ) (own : RunLog) (bytes a b : List ℕ) : Type 0 where
   pub log : RunLog
   pub sealed : IsSealedLogOf h general bytes log

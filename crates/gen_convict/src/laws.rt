@@ -24,8 +24,8 @@ pub fn followers_logs()
 
 /// States that the bytes that are hashed for a link determine the link before it and the entry (`text`). So two lists
 /// with as many entries and equal links before and after them are equal, or the texts collide that are hashed for links
-/// at one place of both lists (`entries`). A list has one such text at each place (`one`), and the text is a list of bytes
-/// if what it is made of is (`bytes`).
+/// at one place of both lists, the first such place (`entries`). A list has one such text at each place (`one`), and the
+/// text is a list of bytes if what it is made of is (`bytes`).
 pub fn links_tell()
     ensures text { OneLinkText }
     ensures entries { LinksTell }

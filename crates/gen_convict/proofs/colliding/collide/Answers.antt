@@ -2,9 +2,11 @@ use Rattle.std.proofs.Common.{◌≡◌, ◌<◌, ◌∙◌, ℕ, Bool, true, fa
 use Rattle.std.specs.Bool.{nat_eq}
 use Rattle.std.specs.Cmp.Lexicographic.{pointwise, same_text, other_text}
 use Rattle.gen_types.proofs.Lists.{bool_cases}
+use Rattle.sha2.specs.Sha256.{sha256}
+use Rattle.gen_ots.specs.Colliding.{AreColliding}
 use Rattle.gen_log.specs.Entry.{IsEntryOf}
 use Rattle.gen_convict.proofs.Linked.{same_or_not}
-use Rattle.gen_convict.proofs.Meeting.{no_links, link_on, tells_on, text_at, is_at, wide}
+use Rattle.gen_convict.proofs.Meeting.{no_links, link_on, tells_on, text_at, apart_more, is_at, wide}
 use Rattle.gen_convict.proofs.colliding.collide.Goals as goal
 use Rattle.gen_convict.proofs.colliding.collide.Goals.{else-eq-via-else-eq, else-eq-via-then-eq+else-ne}
 
@@ -28,6 +30,7 @@ entries-init c = record {
   left = no_links c.args.first.now;
   right = no_links c.args.first.now;
   tells = λ same. refl;
+  apart = λ before below. absurd (omega (arith, below));
   wide_left = c.told-first;
   wide_right = c.told-first;
 }
@@ -46,7 +49,15 @@ entries-preserved c =
     let hashed_left = c.in_ok-walk_on.ensures in
     let hashed_right = c.in_ok-walk_on-2.ensures in
     let below : i < length other = omega (arith, c.requires.length, c.entries-test.true) in
+    let at_left = text_at c.args.first.now c.entries.left.link left.text.items own i e c.entries-test.true c.index-own-i.is before.left hashed_left.text in
+    let at_right = text_at c.args.first.now c.entries.right.link right.text.items other i f below c.index-other-i.is before.right hashed_right.text in
+    let links : sha256 left.text.items ≡ sha256 right.text.items → left.link ≡ right.link = λ hash. hashed_left.link ∙ hash ∙ sym hashed_right.link in
+    let apart : AreColliding left.text.items right.text.items → ⊥ = λ k. elim c.else-eq.branch [
+      | else-eq-via-else-eq w ↦ opposite (same_pairs left.link right.link (links k.1)) (sym c.eq.ensures ∙ w.if-eq.false)
+      | else-eq-via-then-eq+else-ne w ↦ k.0 (alike left.text.items right.text.items (sym w.ne.ensures ∙ w.if-ne.false))
+    ] in
     record {
+      apart = apart_more c.args.first.now own other i left.text.items right.text.items at_left at_right apart before.apart;
       left = link_on c.args.first.now c.entries.left.link left.link left.text.items own i e c.entries-test.true c.index-own-i.is before.left hashed_left.text hashed_left.link;
       right = link_on c.args.first.now c.entries.right.link right.link right.text.items other i f below c.index-other-i.is before.right hashed_right.text hashed_right.link;
       tells = λ same. elim (same_or_not left.text.items right.text.items) [
@@ -81,4 +92,5 @@ returns-then-ne c =
         λ same. opposite (sym c.ne.ensures ∙ c.if-ne.true) (ap not (same_pairs left.text.items right.text.items same)),
         sym hashed_left.link ∙ links ∙ hashed_right.link,
       );
+      earlier = before.apart;
     }
