@@ -1,4 +1,3 @@
 pub mod Among
 pub mod Headings
 pub mod Names
-pub mod Statuses

@@ -147,7 +147,7 @@ fn text_heading(alloc: Global, name: Option<&str>) -> Result<Vec<u8>, AllocError
 /// Returns the line that stands before the answer to one of several inputs. An answer that is one line of JSON names its
 /// input, so that nothing stands before it.
 fn heading_of(alloc: Global, job: &Job, source: Source<'_>) -> Result<Output, JobFault>
-    ensures heading { IfOk result (λ o. IsHeading job.now (name_of source.entry) o.text.items) }
+    ensures heading { IfOk result (λ o. IsHeading job.now (name_of source) o.text.items) }
     ensures negative { IfOk result (λ o. o.negative ≡ false) }
 {
     let name = source.name();
@@ -225,21 +225,6 @@ fn greatest_status(ends: &[Ended]) -> u8
     status
 }
 
-/// Answers several inputs in their order, and returns the greatest of the exit statuses.
-///
-/// # Errors
-///
-/// `AllocError` if memory is refused, before any input is read.
-fn finish_sources<
-    R: Files + Terminals + AllocGlobal + Input + Print + Eprint + Threads + Wait + Sync,
->(rt: &R, asking: &Asking<'_>, sources: &[Source<'_>]) -> Result<u8, AllocError>
-    requires { IsInRange asking.now.job.now }
-    ensures { IfOk result IsStatus }
-{
-    let ends = answer_each(rt, asking, sources)?;
-    Ok(greatest_status(ends.as_slice()))
-}
-
 /// Answers the files that words and a list name, and returns the greatest of the exit statuses; that of the admission or of
 /// the list, if it has a fault or is not read.
 ///
@@ -267,5 +252,6 @@ pub(crate) fn finish_listing<
     let Some(sources) = sources_in(rt.alloc(), &listing.files, &list)? else {
         return Err(WordsFault::NotText);
     };
-    Ok(finish_sources(rt, asking, &sources)?)
+    let ends = answer_each(rt, asking, &sources)?;
+    Ok(greatest_status(&ends))
 }
