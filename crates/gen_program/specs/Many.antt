@@ -42,8 +42,8 @@ abbrev pub called : Option (List ℕ) → List ℕ
 called None = codes "standard input"
 called (Some name) = name
 
--- The line is that which names an input before the lines of its answer. It is not said which escapes it has
--- in the place of control characters.
+-- The line is that which names an input before the lines of its answer. It is not said which escapes it has in
+-- the place of control characters.
 abbrev pub NamesInput : Option (List ℕ) → List ℕ → Type 0
 NamesInput name line =
     list_any is_ascii_control (called name) ≡ false → line ≡ codes "file " ++ called name ++ codes "\n"
