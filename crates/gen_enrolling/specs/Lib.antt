@@ -1,6 +1,5 @@
 pub mod Admitted
 pub mod Admitting
-pub mod Among
 pub mod Asking
 pub mod Enrolling
 pub mod Gathering
@@ -8,4 +7,3 @@ pub mod Loops
 pub mod Resuming
 pub mod Systems
 pub mod Telling
-pub mod ToldReading

@@ -1,3 +1,2 @@
 -- What holds of private functions. No public contract names these definitions.
 pub mod Keeping
-pub mod Telling

@@ -1,3 +1,0 @@
-pub mod Among
-pub mod Headings
-pub mod Names
