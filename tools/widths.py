@@ -1,5 +1,5 @@
 #!/usr/bin/env python3
-"""Names each line of the crates' definitions (specs/) and of their tests that is wider than 115 columns.
+"""Names each line of the crates' definitions (specs/) and of their tests that is wider than 112 columns.
 
     python3 tools/widths.py    at the top of the repository
 
@@ -8,7 +8,7 @@ It prints nothing, and its status is 0, where there is none. Lines that import n
 import pathlib
 import sys
 
-WIDEST = 115
+WIDEST = 112
 
 
 def too_wide(file):
