@@ -19,8 +19,8 @@ Holds x = IsContradiction x.header x.evidence.accused x.evidence.claim
 abbrev pub CanAnswer : HeaderAndEvidence → RunLog → Type 0
 CanAnswer x own = Holds x × IsOwnLog x.header x.evidence.accused own
 
--- The evidence holds, the log is one that the accused could have kept by following, and the text is the line of
--- an answer. Or one of both is not so, and the text says that there is no answer, which says no.
+-- The evidence holds, the log is one that the accused could have kept by following, and the text is the line
+-- of an answer. Or one of both is not so, and the text says that there is no answer, which says no.
 abbrev pub TellsAnswer : HeaderAndEvidence → RunLog → List ℕ → Bool → Type 0
 TellsAnswer x own text false = CanAnswer x own × (answer : Refutation)
     × IsRefutation x.header x.evidence.accused x.evidence.claim own answer × (text ≡ answer_line answer)
