@@ -280,7 +280,7 @@ def flood(made, number):
         wants(refused < 40, f"{refused} logs of the flood were looked at")
 
 
-@case("a node that is down for some runs is told of once, and once when it is back")
+@case("a node that is absent and then down is told of once each, and once when it is back")
 def down(lab):
     with lab.system(deadline=SHORT) as made:
         made.wait_runs(2)
@@ -293,8 +293,9 @@ def down(lab):
         made.nodes[TRAITOR].connect().close()
         made.wait_runs(6)
         await_that(lambda: made.alarms(WATCHER, "back"), "an alarm says that the node is back")
-        told = collections.Counter((it["alarm"], it["node"]) for it in made.alarms(WATCHER)[before:] if it["alarm"] in ("down", "back"))
-        wants(told == {("down", TRAITOR): 1, ("back", TRAITOR): 1}, f"alarms: {told}")
+        kinds = ("absent", "down", "back")
+        told = collections.Counter((it["alarm"], it["node"]) for it in made.alarms(WATCHER)[before:] if it["alarm"] in kinds)
+        wants(told == {(kind, TRAITOR): 1 for kind in kinds}, f"alarms: {told}")
 
 
 @case("gaps that are filled are taken back, run by run")
