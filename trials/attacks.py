@@ -5,9 +5,9 @@
 
 makes all cases, or those named, over sm_tool and vamuretu as they were built. A case is named as its module (`doors`), or as its
 module and its function (`doors.chains`). The cases stand in attack_doors.py (who connects), attack_clocks.py (the clock),
-attack_levels.py (systems of many sets), attack_disks.py (states, spools and disks), attack_watch.py (the watcher) and
-attack_files.py (archives, indices and reports). Each has a system of its own (attack_lab.py) and a process of its own, some
-side by side. A case that fails runs again when all others have ended, alone and with longer rounds, and has failed if it fails
+attack_levels.py (systems of many sets), attack_disks.py (states, spools and disks), attack_watch.py (the watcher),
+attack_files.py (archives, indices and reports) and attack_causes.py (broken systems, and what the programs say of them). Each has
+a system of its own (attack_lab.py) and a process of its own, some side by side. A case that fails runs again when all others have ended, alone and with longer rounds, and has failed if it fails
 three times. A case whose tools are not here is left out.
 """
 import concurrent.futures
@@ -27,7 +27,7 @@ from cargo_built import build_program
 from controllers import Wrong
 from embed import TOP, IsNotBuilt
 
-MODULES = ["doors", "clocks", "levels", "disks", "watch", "files"]
+MODULES = ["doors", "clocks", "levels", "disks", "watch", "files", "causes"]
 SIDE_BY_SIDE = 3
 # How much longer rounds are where a case runs again, and again, and the most seconds that a case takes.
 SLOWER, MOST_SECONDS = (2, 4), 600
