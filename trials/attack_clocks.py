@@ -1,14 +1,15 @@
-"""Attacks by the clock (attacks.py): the clock of a node or of the watcher is set, its daemon is silent, or the process stands still.
+"""Attacks by the clock (attacks.py): the clock of a node or of the watcher is set, its daemon is silent, the process stands still, or a system is over.
 
 steps.c and kernel.c stand between a program and the clock, or what the kernel says of it, by LD_PRELOAD.
 """
 import contextlib
+import dataclasses
 import json
 import os
 import signal
 import time
 
-from attack_lab import await_that, collected, wants
+from attack_lab import Fronts, await_that, collected, wants
 from controllers import PATIENCE
 from embed import TOP, do
 from programs import run
@@ -175,6 +176,65 @@ def daemons(lab):
             wants("bound_ms" in waits(made, node), f"node {node} waits for {waits(made, node)}")
         silent = [made.counts(node)["vamuretu_clock_silent_seconds"] for node in range(3)]
         wants(silent[0] < 8 and 4000 <= silent[1] < 4300 and silent[2] >= 6000, f"silent for {silent}")
+
+
+def second_system(lab, made):
+    """A system of the same nodes, which begins when a system is over, and whose configurations those of that name as the next."""
+    over = made.start + (4 << made.plan.levels) * made.plan.period
+    folder = made.path("second")
+    os.mkdir(folder)
+    plan = dataclasses.replace(made.plan, ahead=over - int(time.time() * 1000))
+    second = type(made)(lab.tool, lab.program, folder, plan, Fronts(made.plan.nodes + 1))
+    for node in range(made.plan.nodes):
+        with open(made.path(f"{node}.toml"), "a", encoding="utf-8") as file:
+            file.write(f'[next]\nfile = "second/{node}.toml"\n')
+    return second
+
+
+def decided_in(made, node, system):
+    """The decisions of a system that a node has told, by their runs."""
+    told = [it for number in list(made.nodes[node].decided) for it in made.nodes[node].decided[number] if it["system"] == system]
+    return {it["run"]: it for it in told}
+
+
+@case("a system that is over: the process of each node goes on with the next one, no run is lost, and applications hear of both")
+def next_system(lab):
+    with lab.system(starts=(), watcher=False, levels=3, ahead=6000) as made:
+        second = second_system(lab, made)
+        made.begin(range(4), watcher=False)
+        waits_for = {node: made.status(node)["next"]["system"] for node in range(4)}
+        wants(set(waits_for.values()) == {second.id}, f"the status has the next systems {waits_for}")
+        last = (4 << made.plan.levels) - 1
+        made.await_run(last - 1)
+        told = made.nodes[0].ask(ask="propose", value={"name": "close"})
+        await_that(lambda: all(len(decided_in(made, node, second.id)) >= 12 for node in range(4)), "each node decides in the next system")
+        for node in range(4):
+            runs = decided_in(made, node, made.id)
+            lacks = set(range(min(runs), last + 1)) - set(runs)
+            wants(not lacks, f"node {node} lost runs {lacks} of the first system")
+            runs = decided_in(made, node, second.id)
+            wants(min(runs) == 0 and set(range(max(runs))) <= set(runs), f"node {node} decided runs {sorted(runs)} of the next system")
+        for number in range(12):
+            orders = {decided_in(made, node, second.id)[number]["order"] for node in range(4)}
+            wants(len(orders) == 1, f"run {number} of the next system: {orders}")
+        wants(told.get("system") in (made.id, second.id), f"a proposal at the end of the first system: {told}")
+        wants(decided_in(made, 0, told["system"])[told["run"]]["value"] == {"name": "close"}, f"the proposal {told} is not decided")
+        wants({made.status(node)["system"] for node in range(4)} == {second.id}, "the status is not of the next system")
+        wants(not made.alarms(0, "next"), f"alarms: {made.alarms(0, 'next')}")
+        wants(all(made.ends(node) for node in range(4)), "SIGTERM does not end the processes")
+        found = second.convicted() if lab.judges else None
+        wants(not found, f"convicted in the next system: {found}")
+
+
+@case("a next system that can't be: an alarm says why, and the present one goes on")
+def no_next_system(lab):
+    with lab.system(starts=(), watcher=False) as made:
+        with open(made.path("1.toml"), "a", encoding="utf-8") as file:
+            file.write('[next]\nfile = "1.toml"\n')
+        made.begin(range(4), watcher=False)
+        goes_on(made, 3, "beside a next system that can't be")
+        told = made.alarms(1, "next")
+        wants(len(told) == 1 and "begins later" in told[0]["told"], f"the alarms {told}")
 
 
 @case("a node whose mark is the last run ends with status 6; one that was not in it waits, since its clock may be wrong")

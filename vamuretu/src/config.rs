@@ -161,11 +161,20 @@ pub struct Spool {
     pub most_bytes: u64,
 }
 
+/// The system that goes on when this one is over.
+#[derive(Debug, Clone, Deserialize)]
+#[serde(deny_unknown_fields)]
+pub struct Next {
+    /// The configuration of the node in that system.
+    pub file: PathBuf,
+}
+
 /// The file of a node.
 #[derive(Debug, Clone, Deserialize)]
 #[serde(deny_unknown_fields)]
 pub struct NodeFile {
     pub system: System,
+    pub next: Option<Next>,
     pub node: Node,
     /// The neighbours. The node itself may stand among them, so that all nodes have one list.
     peers: Vec<Peer>,
@@ -312,6 +321,7 @@ impl File for NodeFile {
         let mut paths = paths_of(&mut self.system, &mut self.key);
         paths.extend([&mut self.node.state, &mut self.node.spool, &mut self.local.socket]);
         paths.extend(&mut self.node.mark);
+        paths.extend(self.next.as_mut().map(|next| &mut next.file));
         paths
     }
 

@@ -20,6 +20,7 @@ use tokio::sync::broadcast::{error::RecvError, Receiver};
 use tokio::sync::{OwnedSemaphorePermit, Semaphore};
 use tokio::time::{timeout, timeout_at, Instant};
 
+use super::nodes::Nodes;
 use super::runs::Outcome;
 use super::{worth, Shared};
 use crate::clock::Look;
@@ -70,6 +71,7 @@ pub enum Request {
 pub fn decision_line(file: &NodeFile, run: &Run, outcome: &Outcome, is_stored: bool) -> Arc<str> {
     let (known, doubt) = (&outcome.known, outcome.known.doubt(run.traitors));
     let decided = json!({
+        "system": hex::encode(file.system.id),
         "run": run.number,
         "run_id": hex::encode(run.run_id),
         "order": outcome.order,
@@ -89,7 +91,7 @@ pub fn decision_line(file: &NodeFile, run: &Run, outcome: &Outcome, is_stored: b
 /// The line of proposals that are lost, by their runs.
 pub fn lost_line(file: &NodeFile, lost: &BTreeMap<u32, u8>, why: &str) -> Arc<str> {
     let named = |(run, order): (&u32, &u8)| json!({ "run": run, "value": file.name_of((*order).into()).map(|name| json!({ "name": name })) });
-    json!({ "lost": { "proposals": lost.iter().map(named).collect::<Vec<_>>(), "why": why } }).to_string().into()
+    json!({ "lost": { "system": hex::encode(file.system.id), "proposals": lost.iter().map(named).collect::<Vec<_>>(), "why": why } }).to_string().into()
 }
 
 /// Takes away a socket that nobody serves. Nothing else that is there is touched.
@@ -118,12 +120,12 @@ pub fn listen(path: &Path) -> Result<UnixListener, End> {
 }
 
 /// Serves applications, for ever.
-pub async fn serve(shared: Arc<Shared>, listener: UnixListener) {
+pub async fn serve(nodes: Arc<Nodes>, listener: UnixListener) {
     let (askers, listeners) = (Places::new(MOST_ASKERS, MOST_ASKERS), Arc::new(Semaphore::new(MOST_LISTENERS)));
     loop {
         match listener.accept().await {
             Ok((stream, _)) => {
-                let (place, client) = (askers.take(()), Client::new(shared.clone(), listeners.clone(), stream));
+                let (place, client) = (askers.take(()), Client::new(nodes.clone(), listeners.clone(), stream));
                 tokio::spawn(async move {
                     if let Err(told) = client.serve(place).await {
                         tracing::debug!(%told, "an application is gone");
@@ -205,7 +207,7 @@ impl Requests {
 
 /// An application that is connected.
 struct Client {
-    shared: Arc<Shared>,
+    nodes: Arc<Nodes>,
     listeners: Arc<Semaphore>,
     requests: Requests,
     to: OwnedWriteHalf,
@@ -213,14 +215,14 @@ struct Client {
 }
 
 impl Client {
-    fn new(shared: Arc<Shared>, listeners: Arc<Semaphore>, stream: UnixStream) -> Client {
+    fn new(nodes: Arc<Nodes>, listeners: Arc<Semaphore>, stream: UnixStream) -> Client {
         let (from, to) = stream.into_split();
-        Client { shared, listeners, requests: Requests::new(from, MOST_REQUEST), to, listening: None }
+        Client { nodes, listeners, requests: Requests::new(from, MOST_REQUEST), to, listening: None }
     }
 
     /// Counts why the application is closed or refused.
     fn refuse(&self, reason: &str) {
-        self.shared.counts.local_refused.with_label_values(&[reason]).inc();
+        self.nodes.now().counts.local_refused.with_label_values(&[reason]).inc();
     }
 
     /// Answers until the application is gone, or a newer one has its place. One that listens to decisions has its place until
@@ -267,19 +269,18 @@ impl Client {
     }
 
     fn answer(&mut self, line: &[u8]) -> Json {
-        let shared = &self.shared;
         match serde_json::from_slice(line) {
-            Ok(Request::Propose { value, run }) => match propose(shared, &value, run) {
-                Ok((run, replaced)) => json!({ "proposed": value, "run": run, "replaced": replaced }),
+            Ok(Request::Propose { value, run }) => match propose(&self.nodes, &value, run) {
+                Ok(proposed) => proposed,
                 Err(why) => json!({ "refused": why }),
             },
             Ok(Request::Decisions) => self.listen(),
-            Ok(Request::Status) => json!({ "status": status(shared) }),
+            Ok(Request::Status) => json!({ "status": status_of_all(&self.nodes) }),
             Ok(Request::Drain) => {
-                shared.drain();
+                self.nodes.drain();
                 json!({ "draining": true })
             }
-            Ok(Request::AcceptStep) => accept_step(shared),
+            Ok(Request::AcceptStep) => accept_step(&self.nodes),
             Err(told) => json!({ "refused": told.to_string() }),
         }
     }
@@ -292,7 +293,7 @@ impl Client {
         };
         match place {
             Ok(_place) => {
-                self.listening = Some(Listening { decisions: self.shared.decisions.subscribe(), _place });
+                self.listening = Some(Listening { decisions: self.nodes.now().decisions.subscribe(), _place });
                 json!({ "listening": true })
             }
             Err(_) => {
@@ -304,8 +305,8 @@ impl Client {
 }
 
 /// Has the clock be believed, which was set ahead.
-fn accept_step(shared: &Shared) -> Json {
-    match shared.guard.accept() {
+fn accept_step(nodes: &Nodes) -> Json {
+    match nodes.all().filter_map(|node| node.guard.accept()).max() {
         Some(by_ms) => {
             tracing::info!(by_ms, "a step of the clock was accepted");
             json!({ "accepted_ms": by_ms })
@@ -314,13 +315,23 @@ fn accept_step(shared: &Shared) -> Json {
     }
 }
 
-/// Keeps a proposal for a run that has not begun, in which this node proposes. Tells the run, and the value whose place it
-/// took.
-fn propose(shared: &Shared, value: &Value, run: Option<u32>) -> Result<(u32, Option<Value>), String> {
-    let order = *shared.file.orders.get(&value.name).ok_or("the table has no order of this name")?;
-    let (run, replaced) = shared.propose(run, order)?;
-    let name_of = |order: u8| shared.file.name_of(order.into()).map(|name| Value { name: name.into() });
-    Ok((run, replaced.and_then(name_of)))
+/// Keeps a proposal for a run that has not begun, in which this node proposes. Tells the system and the run, and the value whose
+/// place it took.
+fn propose_to(node: &Shared, value: &Value, run: Option<u32>) -> Result<Json, String> {
+    let order = *node.file.orders.get(&value.name).ok_or("the table has no order of this name")?;
+    let (run, replaced) = node.propose(run, order)?;
+    let name_of = |order: u8| node.file.name_of(order.into()).map(|name| Value { name: name.into() });
+    let system = hex::encode(node.file.system.id);
+    Ok(json!({ "proposed": value, "system": system, "run": run, "replaced": replaced.and_then(name_of) }))
+}
+
+/// As `propose_to`, of the present system. Without a number it is of the next system where no run is left in the present one.
+fn propose(nodes: &Nodes, value: &Value, run: Option<u32>) -> Result<Json, String> {
+    let told = propose_to(nodes.now(), value, run);
+    match (nodes.from_now().get(1), run) {
+        (Some(next), None) => told.or_else(|_| propose_to(next, value, None)),
+        _ => told,
+    }
 }
 
 /// What is known of the clock.
@@ -331,7 +342,16 @@ fn clock_told(look: &Look) -> Json {
             "steps": look.steps })
 }
 
-/// What the node says of itself.
+/// What the node of the present system says of itself, and that of the next one, if there is one.
+fn status_of_all(nodes: &Nodes) -> Json {
+    let mut told = status(nodes.now());
+    if let Some(next) = nodes.from_now().get(1) {
+        told["next"] = status(next);
+    }
+    told
+}
+
+/// What a node says of itself.
 fn status(shared: &Shared) -> Json {
     let (counts, look) = (&shared.counts, shared.guard.look());
     let peers = shared.links.all().map(|link| {

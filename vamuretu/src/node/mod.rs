@@ -6,6 +6,7 @@ mod inbox;
 pub mod keys;
 pub mod life;
 pub mod local;
+mod nodes;
 mod peers;
 mod runs;
 mod shelf;
@@ -21,7 +22,7 @@ use std::thread::{self, JoinHandle};
 use std::time::{Duration, Instant};
 
 use sd_notify::NotifyState;
-use tokio::net::{TcpListener, UnixListener};
+use tokio::net::TcpListener;
 use tokio::runtime::{Builder, Runtime};
 use tokio::signal::unix::{signal, SignalKind};
 use tokio::sync::broadcast;
@@ -31,6 +32,7 @@ use self::ahead::Ahead;
 use self::counts::Counts;
 use self::inbox::{Inbox, Inboxes};
 use self::keys::Keeper;
+use self::nodes::Nodes;
 use self::peers::Links;
 use self::runs::Play;
 use self::spool::Spool;
@@ -112,6 +114,9 @@ fn run_to_propose_in(asked: Option<u32>, next: u32, runs: u64, is_own: impl Fn(u
     }
 }
 
+/// The lines of decisions, for all applications.
+type Decisions = broadcast::Sender<Arc<str>>;
+
 /// What all parts of a node have.
 pub struct Shared {
     pub file: NodeFile,
@@ -123,7 +128,7 @@ pub struct Shared {
     pub spool: Spool,
     pub longest_frame: usize,
     proposals: Mutex<Proposals>,
-    pub decisions: broadcast::Sender<Arc<str>>,
+    pub decisions: Decisions,
     pub guard: Arc<Guard>,
     waits_for: Mutex<Option<Waits>>,
     pub draining: AtomicBool,
@@ -133,7 +138,7 @@ pub struct Shared {
 }
 
 impl Shared {
-    fn new(file: &NodeFile, systems: Systems, first: &Run) -> Result<Shared, End> {
+    fn new(file: &NodeFile, systems: Systems, first: &Run, decisions: &Decisions) -> Result<Shared, End> {
         let counts = Counts::new(file.clock.round_ms);
         let longest_frame = first.header.longest_frame();
         let rounds = first.header.rounds();
@@ -150,7 +155,7 @@ impl Shared {
             inboxes: Inboxes::default(),
             longest_frame,
             proposals: Mutex::default(),
-            decisions: broadcast::channel(MOST_DECISIONS).0,
+            decisions: decisions.clone(),
             guard: Arc::new(Guard::new(file.clock)),
             waits_for: Mutex::default(),
             draining: AtomicBool::new(false),
@@ -167,6 +172,17 @@ impl Shared {
     /// Notes that the node is at work, which the system's manager is told.
     fn be_alive(&self) {
         self.alive.store(self.begun.elapsed().as_millis() as u64, Ordering::SeqCst);
+    }
+
+    /// Notes that the node has ended, and that no further sign of it comes.
+    fn has_ended(&self) {
+        self.alive.store(u64::MAX, Ordering::SeqCst);
+    }
+
+    /// Whether there was a sign of the node within a time, or it has ended.
+    fn is_alive(&self, most: Duration) -> bool {
+        let alive = Duration::from_millis(self.alive.load(Ordering::SeqCst));
+        self.begun.elapsed().saturating_sub(alive) < most
     }
 
     /// Has no run begin any more.
@@ -427,16 +443,15 @@ fn play(shared: &Shared, run: &Run, node: Node, inbox: &Inbox, begins: Instant) 
     is_decided
 }
 
-/// Says to the system's manager that the node is alive, while the scheduler is at work.
-async fn keep_alive(shared: Arc<Shared>) {
+/// Says to the system's manager that the nodes are alive, while the scheduler of each is at work.
+async fn keep_alive(nodes: Arc<Nodes>) {
     let mut microseconds = 0;
     if !sd_notify::watchdog_enabled(false, &mut microseconds) {
         return;
     }
     let most = Duration::from_micros(microseconds);
     loop {
-        let alive = Duration::from_millis(shared.alive.load(Ordering::SeqCst));
-        if shared.begun.elapsed().saturating_sub(alive) < most {
+        if nodes.all().all(|node| node.is_alive(most)) {
             let _ = sd_notify::notify(false, &[NotifyState::Watchdog]);
         }
         tokio::time::sleep(most / 3).await;
@@ -444,12 +459,12 @@ async fn keep_alive(shared: Arc<Shared>) {
 }
 
 /// Waits for a signal to end.
-async fn await_end(shared: Arc<Shared>) -> std::io::Result<()> {
+async fn await_end(nodes: Arc<Nodes>) -> std::io::Result<()> {
     let (mut terminate, mut interrupt) = (signal(SignalKind::terminate())?, signal(SignalKind::interrupt())?);
     loop {
         tokio::select! { _ = terminate.recv() => {}, _ = interrupt.recv() => {} }
         tracing::info!("told to end");
-        shared.drain();
+        nodes.drain();
     }
 }
 
@@ -469,7 +484,6 @@ fn runtime() -> Result<Runtime, End> {
 struct Listeners {
     peers: TcpListener,
     metrics: Option<TcpListener>,
-    local: UnixListener,
 }
 
 impl Listeners {
@@ -482,7 +496,6 @@ impl Listeners {
         Ok(Listeners {
             peers: listen(runtime, file.node.listen)?,
             metrics: file.metrics.as_ref().map(|of| listen(runtime, of.address)).transpose()?,
-            local: local::listen(&file.local.socket)?,
         })
     }
 }
@@ -505,9 +518,6 @@ fn start(runtime: &Runtime, shared: &Arc<Shared>) -> Result<(), End> {
     if let Some(listener) = listeners.metrics {
         tokio::spawn(metrics::serve(listener, shared.counts.registry.clone()));
     }
-    tokio::spawn(local::serve(shared.clone(), listeners.local));
-    tokio::spawn(keep_alive(shared.clone()));
-    tokio::spawn(await_end(shared.clone()));
     Ok(())
 }
 
@@ -525,34 +535,64 @@ fn check(file: &NodeFile, systems: &Systems, first: &Run) -> Result<(), End> {
     }
 }
 
+/// A node of one system, whose parts have begun.
+struct Started {
+    shared: Arc<Shared>,
+    scheduler: Scheduler,
+}
+
+impl Started {
+    /// Begins all parts of a node but the local socket, once all that it wants was had.
+    fn new(runtime: &Runtime, file: &NodeFile, decisions: &Decisions) -> Result<Started, End> {
+        let systems = Systems::open(&file.system)?;
+        let first = systems.run(0)?;
+        check(file, &systems, &first)?;
+        let keeper = Keeper::open(file)?;
+        let shared = Arc::new(Shared::new(file, systems, &first, decisions)?);
+        ahead::start(&shared)?;
+        start(runtime, &shared)?;
+        tracing::info!(node = file.node.number, system = %hex::encode(file.system.id), mark = ?keeper.mark(), "started");
+        let (passing, prepared, under_way) = (Passing::default(), None, vec![]);
+        let life = life::Told::default();
+        let scheduler = Scheduler { shared: shared.clone(), keeper, passing, life, prepared, under_way };
+        Ok(Started { shared, scheduler })
+    }
+
+    /// Goes on until the node is told to end, or no run is left. Then it ends the runs under way, and hands out their logs.
+    fn go_to_end(mut self) -> Result<(), End> {
+        let ended = self.scheduler.go_on();
+        // Runs under way may take longer than a sign of life may be away.
+        while self.scheduler.under_way.iter().any(|run| !run.is_finished()) {
+            self.shared.be_alive();
+            thread::sleep(LOOK);
+        }
+        let end = Instant::now() + MOST_SHIPPING;
+        while self.shared.spool.waiting() > 0 && Instant::now() < end {
+            self.shared.be_alive();
+            thread::sleep(LOOK);
+        }
+        self.shared.has_ended();
+        ended
+    }
+}
+
 /// The command `node`.
 pub fn run(file: &NodeFile) -> Result<(), End> {
-    let systems = Systems::open(&file.system)?;
-    let first = systems.run(0)?;
-    check(file, &systems, &first)?;
-    let keeper = Keeper::open(file)?;
-    let shared = Arc::new(Shared::new(file, systems, &first)?);
-    let runtime = runtime()?;
-    ahead::start(&shared)?;
-    start(&runtime, &shared)?;
-    tracing::info!(node = file.node.number, system = %hex::encode(file.system.id), mark = ?keeper.mark(), "started");
+    let (runtime, decisions) = (runtime()?, broadcast::channel(MOST_DECISIONS).0);
+    let present = Started::new(&runtime, file, &decisions)?;
+    let next = nodes::next_of(&runtime, file, &decisions);
+    let shared = std::iter::once(&present).chain(&next).map(|node| node.shared.clone());
+    let nodes = Arc::new(Nodes::new(shared.collect()));
+    let listeners = nodes.listeners(&runtime)?;
+    for listener in listeners {
+        runtime.spawn(local::serve(nodes.clone(), listener));
+    }
+    runtime.spawn(keep_alive(nodes.clone()));
+    runtime.spawn(await_end(nodes.clone()));
     let _ = sd_notify::notify(false, &[NotifyState::Ready]);
-    let (passing, prepared, under_way) = (Passing::default(), None, vec![]);
-    let life = life::Told::default();
-    let mut scheduler = Scheduler { shared: shared.clone(), keeper, passing, life, prepared, under_way };
-    let ended = scheduler.go_on();
+    let ended = nodes::go_to_end(&nodes, present, next);
     let _ = sd_notify::notify(false, &[NotifyState::Stopping]);
-    // Runs under way may take longer than a sign of life may be away.
-    while scheduler.under_way.iter().any(|run| !run.is_finished()) {
-        shared.be_alive();
-        thread::sleep(LOOK);
-    }
-    let end = Instant::now() + MOST_SHIPPING;
-    while shared.spool.waiting() > 0 && Instant::now() < end {
-        shared.be_alive();
-        thread::sleep(LOOK);
-    }
-    let _ = std::fs::remove_file(&file.local.socket);
+    nodes.remove_sockets();
     tracing::info!("ended");
     ended
 }
