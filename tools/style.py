@@ -43,6 +43,7 @@ KEPT = [
     "docs/PROTOCOL.md",
     "docs/README.md",
     "docs/RECORDS.md",
+    "docs/REFERENCE.md",
     "docs/ROWS.md",
     "docs/SYSTEM.md",
     "docs/WALK.md",

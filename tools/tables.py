@@ -1,23 +1,20 @@
 #!/usr/bin/env python3
-"""Makes the table of trials/README.md: a row for each subject of trials/run.py, with the first paragraph of its docstring.
+"""Makes tables of the pages: that of trials/README.md, a row for each subject of trials/run.py with the first paragraph of its
+docstring, and those of docs/REFERENCE.md and docs/socket.schema.json (tables_vamuretu.py).
 
-    tools/tables.py            writes the table into the page, behind its head
-    tools/tables.py --check    writes nothing; where the page has another table it says so, and the status is 1
+    tools/tables.py            writes the tables into the pages
+    tools/tables.py --check    writes nothing; where a page has another table it says so, and the status is 1
 """
 import ast
 import os
 import re
 import sys
 
-TOP = os.path.dirname(os.path.dirname(os.path.abspath(__file__)))
+import tables_vamuretu
+from version import TOP, read
+
 TRIALS = os.path.join(TOP, "trials")
-PAGE = os.path.join(TRIALS, "README.md")
-HEAD = "| Subject | What is tried |\n|---|---|\n"
-
-
-def read(path):
-    with open(path, encoding="utf-8") as file:
-        return file.read()
+HEADING = "## The subjects"
 
 
 def module(name):
@@ -37,22 +34,54 @@ def head_of(name):
     return re.sub(r"docs/[A-Z]+\.md", lambda it: f"[{it[0]}](../{it[0]})", head.replace("\n", " "))
 
 
-def table():
-    return HEAD + "".join(f"| `{name}.py` | {head_of(name)} |\n" for name in subjects())
+def subjects_table():
+    """A row for each subject."""
+    yield from ("| Subject | What is tried |", "|---|---|")
+    yield from (f"| `{name}.py` | {head_of(name)} |" for name in subjects())
+
+
+def with_table(text, heading, rows):
+    """A page whose first table behind a heading has these rows."""
+    before, found, behind = text.partition(f"\n{heading}\n")
+    table = re.search(r"(?:^\|.*\n)+", behind, re.MULTILINE)
+    if not found or not table or re.search(r"^#", behind[:table.start()], re.MULTILINE):
+        sys.exit(f"no table stands behind {heading}")
+    return before + found + behind[:table.start()] + "".join(f"{it}\n" for it in rows) + behind[table.end():]
+
+
+def made():
+    """Each file that has what is made here, with the text that it has then."""
+    page = os.path.join(TRIALS, "README.md")
+    yield page, with_table(read(page), HEADING, subjects_table())
+    text = read(tables_vamuretu.REFERENCE)
+    for heading, rows in tables_vamuretu.TABLES.items():
+        text = with_table(text, heading, rows())
+    yield tables_vamuretu.REFERENCE, text
+    yield tables_vamuretu.SCHEMA, tables_vamuretu.schema()
+
+
+def wrong():
+    """What is wrong with the pages, a line each."""
+    for path, text in made():
+        is_there = os.path.exists(path)
+        if is_there and read(path) == text:
+            continue
+        name, known = os.path.relpath(path, TOP), set(read(path).splitlines()) if is_there else set()
+        yield f"{name}: tools/tables.py makes another table"
+        yield from (f"{name}: it lacks {line}" for line in text.splitlines() if line not in known)
+    yield from tables_vamuretu.wrong()
 
 
 def main():
     if sys.argv[1:] not in ([], ["--check"]):
         sys.exit(__doc__)
-    before, head, behind = read(PAGE).partition(HEAD)
-    if not head:
-        sys.exit(f"trials/README.md: no table {HEAD}")
-    is_made = f"{HEAD}{behind}".startswith(f"{table()}\n")
     if sys.argv[1:]:
-        print(end="" if is_made else "trials/README.md: tools/tables.py makes another table\n")
-        return 0 if is_made else 1
-    with open(PAGE, "w", encoding="utf-8") as file:
-        file.write(f"{before}{table()}\n{behind.partition(chr(10) * 2)[2]}")
+        lines = list(wrong())
+        print("".join(f"{line}\n" for line in lines), end="")
+        return 1 if lines else 0
+    for path, text in made():
+        with open(path, "w", encoding="utf-8") as file:
+            file.write(text)
     return 0
 
 

@@ -29,6 +29,7 @@ import urllib.request
 
 from cargo_built import build_program
 from embed import TOP, do
+from json_texts import reader_of
 from programs import run, side_by_side
 from wires import Loopback
 
@@ -123,7 +124,7 @@ class Node(Process):
         with self.connect() as made, made.makefile("rw") as lines:
             lines.write(json.dumps(what) + "\n")
             lines.flush()
-            return json.loads(lines.readline() or "{}")
+            return self.read(lines.readline() or "{}")
 
     def hear(self, process):
         """Hears decisions until the node ends."""
@@ -131,12 +132,16 @@ class Node(Process):
             lines.write('{"ask": "decisions"}\n')
             lines.flush()
             for line in lines:
-                said = json.loads(line)
+                said = self.read(line)
                 told = said.get("decided")
                 if told:
                     with self.told:
                         self.decided.setdefault(told["run"], []).append(self.kept(told))
                 self.lost += (it["run"] for it in said.get("lost", {}).get("proposals", []))
+
+    def read(self, line):
+        """What a line says."""
+        return json.loads(line)
 
     def kept(self, told):
         """What is kept of a decision."""
@@ -146,6 +151,44 @@ class Node(Process):
         self.process.kill()
         self.process.wait()
         self.hears.join()
+
+
+def closed(schema):
+    """A schema whose objects have no members but those that it names."""
+    if isinstance(schema, list):
+        return [closed(it) for it in schema]
+    if not isinstance(schema, dict):
+        return schema
+    told = {name: closed(it) for name, it in schema.items()}
+    return told | ({"additionalProperties": False} if schema.get("type") == "object" else {})
+
+
+def read_socket_schema():
+    """A test of a line or a request at a socket against the schema of docs/, without members that it does not name."""
+    with open(os.path.join(TOP, "docs", "socket.schema.json"), encoding="ascii") as kept:
+        return reader_of(closed(json.load(kept)))
+
+
+class Schooled(Node):
+    """A node each of whose lines is compared with the schema, and so are the requests to it."""
+
+    takes = staticmethod(read_socket_schema())
+
+    def ask(self, **what):
+        self.look(what)
+        return super().ask(**what)
+
+    def read(self, line):
+        told = super().read(line)
+        if told:
+            self.look(told)
+        return told
+
+    def look(self, told):
+        self.made.seen.update(told)
+        wrong = self.takes(told)
+        if wrong:
+            self.made.untaken.append(f"{json.dumps(told)[:300]}: {wrong}")
 
 
 class Watcher(Process):
@@ -574,6 +617,23 @@ def bound_wrong(made):
     return None if node.decided and before > LEAST_SPOOL >= after else f"{len(node.decided)} runs, {before} bytes, and then {after}"
 
 
+class Schools(Made):
+    """The files of a system whose lines are compared."""
+
+    kind_of_node = Schooled
+
+    def __init__(self, *words):
+        # The members that lines and requests began with, and what the schema does not take.
+        self.seen, self.untaken = set(), []
+        super().__init__(*words)
+
+
+def lines_wrong(made):
+    """None where the schema takes each line at the sockets, and there was each kind that this trial brings about."""
+    lacking = {"ask", "decided", "listening", "proposed", "status"} - made.seen
+    return made.untaken[0] if made.untaken else f"no line began with {sorted(lacking)}" if lacking else None
+
+
 def try_system(tally, made):
     """All trials of one system."""
     first, middle, last, told, status = go(made)
@@ -583,6 +643,7 @@ def try_system(tally, made):
     tally.hold("logs", logs_wrong(made, tally, first))
     tally.hold("receipts", receipts_wrong(made, max(made.nodes[0].decided)))
     tally.hold("metrics", metrics_wrong(told, status))
+    tally.hold("lines at the sockets", lines_wrong(made))
     # A node that was started again is younger. A busy system takes pages from some node for a while.
     before, after = (max(it for node, it in zip(made.nodes, held) if node.starts == 1) for held in (middle, last))
     tally.hold("memory", None if after <= before + GROWS else f"it grew to {last} KiB, from {middle}")
@@ -598,7 +659,7 @@ def trials(program, tally):
     with tempfile.TemporaryDirectory(dir="/tmp") as folder:
         made = None
         try:
-            made = Made(program, vamuretu, folder)
+            made = Schools(program, vamuretu, folder)
             try_system(tally, made)
         except Wrong as told:
             tally.fail(str(told))

@@ -30,9 +30,13 @@ WORDS = {
 
 
 def read_schema():
-    """The schema of docs/, and a test of a value against it: by jsonschema, where that is installed."""
+    """The schema of docs/, and a test of a value against it."""
     with open(SCHEMA, encoding="ascii") as kept:
-        schema = json.load(kept)
+        return reader_of(json.load(kept))
+
+
+def reader_of(schema):
+    """A test of a value against a schema: by jsonschema, where that is installed."""
     try:
         import jsonschema
     except ImportError:

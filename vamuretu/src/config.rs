@@ -1,4 +1,7 @@
 //! The configuration: one TOML file for a node, and one for a watcher. Paths count from the folder of the file.
+//!
+//! tools/tables.py makes the table of keys in docs/REFERENCE.md of these types. The comment of a field says there what the key is;
+//! its lines `Bounds:` and `Default:` say what the type does not say of these.
 
 use std::collections::{BTreeMap, BTreeSet};
 use std::fs;
@@ -37,6 +40,7 @@ pub struct System {
     #[serde(deserialize_with = "digits")]
     pub id: Id,
     /// The files of roots of all nodes, node 0 first.
+    /// Bounds: 2 to 16 files, one for each node.
     pub roots: Vec<PathBuf>,
 }
 
@@ -46,16 +50,21 @@ pub struct System {
 pub struct Clock {
     /// Whose word it is that the system's clock is right.
     pub source: Source,
-    /// When run 0 begins, in milliseconds since 1970.
+    /// When run 0 begins: milliseconds since 1970, or a moment as `2027-01-01T00:00:00Z`.
+    /// Bounds: a moment is behind 1970, and ends with `Z`.
     #[serde(deserialize_with = "moment")]
     pub start: i64,
     /// From the beginning of a run to that of the next.
+    /// Bounds: at least `round_ms` / 4.
     pub period_ms: u32,
     /// The length of a round.
+    /// Bounds: 4 to 4 `period_ms`.
     pub round_ms: u32,
     /// How wrong the clock may be.
+    /// Bounds: 0 to `round_ms` / 4.
     pub bound_ms: u32,
-    /// How fast it goes wrong at most, in millionths, where the daemon that sets it is silent.
+    /// How fast it goes wrong at most, where the daemon that sets it is silent.
+    /// Bounds: 1 to 500.
     #[serde(default = "drift_ppm")]
     pub drift_ppm: u32,
 }
@@ -83,14 +92,17 @@ pub struct Key {
     pub file: PathBuf,
 }
 
+/// The node that runs.
 #[derive(Debug, Clone, Deserialize)]
 #[serde(deny_unknown_fields)]
 pub struct Node {
     /// The number of the node in the system.
+    /// Bounds: below the number of `roots`.
     pub number: u32,
-    /// The file of the state, 68 bytes.
+    /// The file of the state, 68 bytes: secret.
     pub state: PathBuf,
-    /// The file of the mark, which belongs to another disk; without it beside the state.
+    /// The file of the mark, which belongs to another disk.
+    /// Default: beside the state, with the end `.mark`.
     mark: Option<PathBuf>,
     /// The folder of the logs.
     pub spool: PathBuf,
@@ -109,9 +121,13 @@ impl Node {
 #[derive(Debug, Clone, Deserialize)]
 #[serde(deny_unknown_fields)]
 pub struct Peer {
+    /// Its number in the system.
+    /// Bounds: below the number of `roots`, each once.
     pub number: u32,
+    /// Where it listens.
     pub address: SocketAddr,
     /// The pins of its key: two while it gets another.
+    /// Bounds: 1 or 2 with `[key]`, each once in the file, and else none.
     #[serde(default)]
     pub keys: Vec<Pin>,
 }
@@ -120,8 +136,10 @@ pub struct Peer {
 #[derive(Debug, Clone, Deserialize)]
 #[serde(deny_unknown_fields)]
 pub struct Watcher {
+    /// Where it listens.
     pub address: SocketAddr,
-    /// As those of a node.
+    /// The pins of its key: two while it gets another.
+    /// Bounds: 1 or 2 with `[key]`, each once in the file, and else none.
     #[serde(default)]
     pub keys: Vec<Pin>,
 }
@@ -130,14 +148,18 @@ pub struct Watcher {
 #[derive(Debug, Clone, Deserialize)]
 #[serde(deny_unknown_fields)]
 pub struct Watched {
+    /// Its number in the system.
+    /// Bounds: below the number of `roots`, each once.
     pub number: u32,
-    /// Where it connects from, if that is known.
+    /// Where it connects from: this keeps places for its connections.
     pub address: Option<IpAddr>,
     /// The pins of its key: two while it gets another.
+    /// Bounds: 1 or 2 with `[key]`, each once in the file, and else none.
     #[serde(default)]
     pub keys: Vec<Pin>,
 }
 
+/// Where programs of the same machine talk to the node.
 #[derive(Debug, Clone, Deserialize)]
 #[serde(deny_unknown_fields)]
 pub struct Local {
@@ -145,17 +167,19 @@ pub struct Local {
     pub socket: PathBuf,
 }
 
+/// Where the metrics are read.
 #[derive(Debug, Clone, Deserialize)]
 #[serde(deny_unknown_fields)]
 pub struct Metrics {
-    /// The local address where the metrics are read.
+    /// The address, by HTTP without a key: an address of the machine itself.
     pub address: SocketAddr,
 }
 
+/// How long logs are kept.
 #[derive(Debug, Clone, Deserialize)]
 #[serde(deny_unknown_fields)]
 pub struct Spool {
-    /// How long a log is kept that a watcher has acknowledged.
+    /// How long a log is kept that each watcher has acknowledged.
     pub days: u32,
     /// How many bytes the logs have at most.
     pub most_bytes: u64,
@@ -173,25 +197,37 @@ pub struct Next {
 #[derive(Debug, Clone, Deserialize)]
 #[serde(deny_unknown_fields)]
 pub struct NodeFile {
+    /// The system that the node is of.
     pub system: System,
+    /// The system that goes on when this one is over.
     pub next: Option<Next>,
+    /// The node that runs.
     pub node: Node,
-    /// The neighbours. The node itself may stand among them, so that all nodes have one list.
+    /// Its neighbours. The node itself may stand among them, so that all nodes have one list.
     peers: Vec<Peer>,
+    /// The watchers, to which the logs go.
     #[serde(default)]
     pub watchers: Vec<Watcher>,
+    /// The key of connections. Without it these are plain, and a tunnel protects them.
     pub key: Option<Key>,
+    /// When runs begin, and how long a round is.
     pub clock: Clock,
-    /// The number of each order by its name.
+    /// A key for each value (order): its name, and its number. Value 0 is decided if nothing comes.
+    /// Bounds: 2 to 15 names, with the numbers from 0 on. A name has characters, none of them hidden.
     pub orders: Orders,
+    /// Where programs of the same machine talk to the node.
     pub local: Local,
+    /// Where the metrics are read.
     pub metrics: Option<Metrics>,
+    /// How long logs are kept.
     pub spool: Spool,
 }
 
+/// What a watcher does.
 #[derive(Debug, Clone, Deserialize)]
 #[serde(deny_unknown_fields)]
 pub struct Watch {
+    /// Where nodes connect to.
     pub listen: SocketAddr,
     /// Where bundles, verdicts and evidence are kept.
     pub folder: PathBuf,
@@ -204,10 +240,11 @@ pub struct Watch {
     pub first: u32,
 }
 
+/// Who is told of alarms.
 #[derive(Debug, Clone, Default, Deserialize)]
 #[serde(deny_unknown_fields)]
 pub struct Alarms {
-    /// A program that is started on each alarm.
+    /// A program that is started on each alarm, with its JSON as the input.
     pub hook: Option<PathBuf>,
 }
 
@@ -215,16 +252,24 @@ pub struct Alarms {
 #[derive(Debug, Clone, Deserialize)]
 #[serde(deny_unknown_fields)]
 pub struct WatchFile {
+    /// The system that is watched.
     pub system: System,
+    /// What the watcher does.
     pub watch: Watch,
+    /// As the nodes have it.
     pub clock: Clock,
-    /// The number of each order by its name, as the nodes have them.
+    /// As the nodes have it.
     pub orders: Orders,
+    /// As of a node.
     pub key: Option<Key>,
+    /// The nodes, each by its key.
+    /// Bounds: each node, if there is `[key]`.
     #[serde(default)]
     pub nodes: Vec<Watched>,
+    /// Who is told of alarms.
     #[serde(default)]
     pub alarms: Alarms,
+    /// As of a node.
     pub metrics: Option<Metrics>,
 }
 
@@ -562,6 +607,53 @@ mod tests {
             assert!(four().contains(old), "{old}");
             let told = read_text::<NodeFile>(Path::new("2.toml"), &four().replacen(old, new, 1));
             assert_eq!(told.expect_err(new).status, 3, "{new}");
+        }
+    }
+
+    /// The bounds of keys as docs/REFERENCE.md has them. Behind each stands a key of the example with such bounds, and values that
+    /// it may have and may not have. Other tests here try the bounds that stand without a key.
+    const BOUNDS: [(&str, &str, &[&str], &[&str]); 13] = [
+        ("2 to 16 files, one for each node", "roots", &[ROOTS], &["[\"0\"]", MANY_ROOTS]),
+        ("below the number of `roots`", "number", &["3"], &["4", "-1"]),
+        ("below the number of `roots`, each once", "", &[], &[]),
+        ("1 or 2 with `[key]`, each once in the file, and else none", "", &[], &[]),
+        (
+            "a moment is behind 1970, and ends with `Z`",
+            "start",
+            &["-1"],
+            &["1969-12-31T23:59:59Z", "2027-01-01T00:00:00"],
+        ),
+        ("at least `round_ms` / 4", "period_ms", &["63", "4294967295"], &["62", "4294967296"]),
+        ("4 to 4 `period_ms`", "round_ms", &["4", "4000"], &["3", "4001"]),
+        ("0 to `round_ms` / 4", "bound_ms", &["0", "62"], &["-1", "63"]),
+        ("1 to 500", "drift_ppm", &["1", "500"], &["0", "501"]),
+        ("2 to 15 names, with the numbers from 0 on. A name has characters, none of them hidden", "", &[], &[]),
+        ("each node, if there is `[key]`", "", &[], &[]),
+        ("below 2^32", "days", &["0", "4294967295"], &["-1", "4294967296"]),
+        ("below 2^63", "most_bytes", &["0", "9223372036854775807"], &["-1", "9223372036854775808"]),
+    ];
+    const ROOTS: &str = r#"["0", "1", "2", "3", "4", "5", "6", "7", "8", "9", "10", "11", "12", "13", "14", "15"]"#;
+    const MANY_ROOTS: &str =
+        r#"["0", "1", "2", "3", "4", "5", "6", "7", "8", "9", "10", "11", "12", "13", "14", "15", "16"]"#;
+
+    #[test]
+    fn bounds_are_as_the_page_has_them() {
+        let page = include_str!("../../docs/REFERENCE.md");
+        let section = page.split("\n## ").find(|it| it.starts_with("The configuration\n")).expect("the section");
+        let rows = section.lines().filter(|line| line.starts_with("| `"));
+        let told: BTreeSet<&str> = rows.map(|row| row.split(" | ").nth(4).expect("a column").trim()).collect();
+        assert_eq!(told, BOUNDS.iter().map(|it| it.0).chain([""]).collect());
+        let text = four().replace("bound_ms = 20", "bound_ms = 0");
+        for (bounds, key, may, may_not) in BOUNDS.iter().filter(|it| !it.1.is_empty()) {
+            let front = format!("\n{key} = ");
+            let (before, behind) = text.split_once(&front).expect("the key");
+            let rest = behind.split_once('\n').expect("a line").1;
+            let takes = |value| {
+                let text = format!("{before}{front}{value}\n{rest}");
+                read_text::<NodeFile>(Path::new("2.toml"), &text).map_err(|told| told.line)
+            };
+            may.iter().for_each(|it| assert!(takes(it).is_ok(), "{key}, {bounds}: {:?}", takes(it).err()));
+            may_not.iter().for_each(|it| assert!(takes(it).is_err(), "{key}, {bounds}: {it}"));
         }
     }
 

@@ -70,10 +70,31 @@ pub async fn answer<S: AsyncRead + AsyncWrite + Unpin>(mut stream: S, registry: 
 }
 
 #[cfg(test)]
-mod tests {
+pub mod tests {
+    use prometheus::proto::MetricFamily;
     use tokio::net::TcpStream;
 
     use super::*;
+
+    /// Compares what a registry tells with the rows of docs/REFERENCE.md behind a heading: name, type, label and help of each
+    /// metric. The page has that of this module, too.
+    pub fn on_the_page(heading: &str, registry: &Registry) {
+        let page = include_str!("../../docs/REFERENCE.md").split_once(heading).expect("a heading").1;
+        let page = page.split("\n#").next().expect("a section");
+        let mut told: Vec<String> = registry.gather().iter().map(row_of).collect();
+        told.sort_unstable();
+        let mut rows: Vec<&str> = page.lines().filter(|line| line.starts_with("| `vamuretu_")).collect();
+        rows.retain(|row| !row.starts_with("| `vamuretu_metrics_refused_total`"));
+        rows.sort_unstable();
+        assert_eq!(told, rows);
+    }
+
+    /// The row of a metric.
+    fn row_of(family: &MetricFamily) -> String {
+        let kind = format!("{:?}", family.get_field_type()).to_lowercase();
+        let label = family.get_metric()[0].get_label().first().map(|it| format!("`{}`", it.get_name()));
+        format!("| `{}` | {kind} | {} | {} |", family.get_name(), label.unwrap_or_default(), family.get_help())
+    }
 
     #[test]
     fn who_is_silent_keeps_nobody_from_an_answer() {

@@ -2,6 +2,11 @@
 
 use prometheus::{Gauge, Histogram, HistogramOpts, IntCounter, IntCounterVec, IntGauge, IntGaugeVec, Opts, Registry};
 
+/// What the label of a metric says.
+const LOCAL_REFUSED: &str =
+    "Applications that were closed or refused: newer (a newer one has the place), listeners (too many \
+    listen), request (too long, or it did not end), unread (it did not read).";
+
 /// The metrics of a node. Each is there from the beginning, with 0.
 #[derive(Clone)]
 pub struct Counts {
@@ -97,13 +102,21 @@ impl Counts {
             proposals_lost: make
                 .counter("proposals_lost_total", "Proposals for runs that this node did not begin, or did not decide."),
             lost: make.counter("frames_lost_total", "Frames that had not come when their round ended."),
-            refused: make.counters("frames_refused_total", "Frames that were refused, by their fault.", "fault"),
-            dropped: make.counters("frames_dropped_total", "Frames that a full queue dropped.", "peer"),
-            barred: make.counters("frames_barred_total", "Frames behind too many that were refused.", "peer"),
+            refused: make.counters(
+                "frames_refused_total",
+                "Frames that were refused, by their fault, F1 to F8.",
+                "fault",
+            ),
+            dropped: make.counters("frames_dropped_total", "Frames that a full queue to a neighbour dropped.", "peer"),
+            barred: make.counters(
+                "frames_barred_total",
+                "Frames of a neighbour behind too many that were refused.",
+                "peer",
+            ),
             unsent: make.counter("frames_unsent_total", "Frames that the kernel did not have by half of their round."),
             worthless: make
                 .counter("decisions_worthless_total", "Decisions that are worth nothing alone: `holds` is false."),
-            local_refused: make.counters("local_refused_total", "Applications that were ended or refused.", "reason"),
+            local_refused: make.counters("local_refused_total", LOCAL_REFUSED, "reason"),
             connected: make.gauges("connected", "1 while the neighbour is connected.", "peer"),
             under_way: make.gauge("runs_under_way", "Runs that are under way."),
             newest: make.gauge("newest_run", "The number of the newest run that was begun, or -1."),
@@ -112,7 +125,7 @@ impl Counts {
             may_begin: make.gauge("may_begin", "1 if the clock and the mark let runs begin."),
             offset: make.seconds("clock_offset", "What the kernel still has to correct."),
             most_error: make.seconds("clock_most_error", "The kernel's bound of the error."),
-            clock_error: make.seconds("clock_error", "How wrong the clock may be, which bound_ms bounds."),
+            clock_error: make.seconds("clock_error", "How wrong the clock may be, which `bound_ms` bounds."),
             clock_silent: make.seconds("clock_silent", "For how long no daemon has set the clock, at most."),
             clock_ahead: make.seconds("clock_ahead", "The step ahead that waits to be accepted, or 0."),
             steps: make.gauge("clock_steps", "How often the clock was set to another time."),
@@ -140,5 +153,18 @@ impl Counts {
         }
         counts.newest.set(-1);
         counts
+    }
+}
+
+#[cfg(test)]
+mod tests {
+    use super::*;
+
+    #[test]
+    fn each_metric_is_on_the_page() {
+        let counts = Counts::new(250);
+        [&counts.dropped, &counts.barred].iter().for_each(|of| of.with_label_values(&["0"]).inc());
+        counts.connected.with_label_values(&["0"]).set(1);
+        crate::metrics::tests::on_the_page("### Metrics of a node", &counts.registry);
     }
 }

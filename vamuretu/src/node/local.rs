@@ -1,4 +1,5 @@
 //! The local socket: proposals, decisions, status and drain. Each request, answer and decision is a line with a JSON object.
+//! tools/tables.py makes docs/socket.schema.json and tables of docs/REFERENCE.md of `Request`, and of the lines in answers.rs.
 //!
 //! A value is an object, `{"name": ..}` for an order of the configuration's table: other members may come for other values.
 
@@ -12,7 +13,7 @@ use std::sync::Arc;
 use std::time::Duration;
 
 use serde::{Deserialize, Serialize};
-use serde_json::{json, Value as Json};
+use serde_json::Value as Json;
 use tokio::io::{AsyncBufRead, AsyncBufReadExt, AsyncWriteExt};
 use tokio::net::unix::{OwnedReadHalf, OwnedWriteHalf};
 use tokio::net::{UnixListener, UnixStream};
@@ -20,6 +21,8 @@ use tokio::sync::broadcast::{error::RecvError, Receiver};
 use tokio::sync::{OwnedSemaphorePermit, Semaphore};
 use tokio::time::{timeout, timeout_at, Instant};
 
+use super::answers::{self, Decided, Line, Lost, Proposal, Status};
+use super::counts::Counts;
 use super::nodes::Nodes;
 use super::runs::Outcome;
 use super::{worth, Shared};
@@ -45,6 +48,7 @@ pub const DESCRIPTORS: usize = MOST_LISTENERS + MOST_ASKERS + 1;
 #[derive(Debug, Clone, PartialEq, Eq, Serialize, Deserialize)]
 #[serde(deny_unknown_fields)]
 pub struct Value {
+    /// Its name in `[orders]`.
     pub name: String,
 }
 
@@ -52,46 +56,55 @@ pub struct Value {
 #[derive(Debug, Deserialize)]
 #[serde(tag = "ask", rename_all = "lowercase", deny_unknown_fields)]
 pub enum Request {
-    /// That the node proposes a value in a run of its own, without a number in the next.
+    /// That the node proposes a value.
     Propose {
+        /// The value.
         value: Value,
+        /// A run of the present system that has not begun, and in which this node proposes: the next such run without a number.
         run: Option<u32>,
     },
     /// The decisions from now on, a line each.
-    Decisions,
-    Status,
+    Decisions {},
+    /// What the node says of itself.
+    Status {},
     /// That the node begins no run, and ends.
-    Drain,
+    Drain {},
     /// That the clock is believed, which was set ahead.
     #[serde(rename = "accept-step")]
-    AcceptStep,
+    AcceptStep {},
+}
+
+/// The value of an order, if the table has it.
+fn value_of(file: &NodeFile, order: u32) -> Option<Value> {
+    file.name_of(order).map(|name| Value { name: name.into() })
 }
 
 /// The line of a decision.
 pub fn decision_line(file: &NodeFile, run: &Run, outcome: &Outcome, is_stored: bool) -> Arc<str> {
     let (known, doubt) = (&outcome.known, outcome.known.doubt(run.traitors));
-    let decided = json!({
-        "system": hex::encode(file.system.id),
-        "run": run.number,
-        "run_id": hex::encode(run.run_id),
-        "order": outcome.order,
-        "value": file.name_of(outcome.order).map(|name| json!({ "name": name })),
-        "proposer": run.nodes.first(),
-        "holds": doubt.is_none(),
-        "in_time": known.late(run.traitors).is_none(),
-        "lacked": known.lacked,
-        "unsent": known.unsent,
-        "log_stored": is_stored,
-        "worth": worth::sentence(doubt.as_ref(), run.traitors),
-        "receipt": base64::encode(&outcome.receipt),
-    });
-    json!({ "decided": decided }).to_string().into()
+    let decided = Decided {
+        system: hex::encode(file.system.id),
+        run: run.number,
+        run_id: hex::encode(run.run_id),
+        proposer: run.nodes.first().copied(),
+        order: outcome.order,
+        value: value_of(file, outcome.order),
+        holds: doubt.is_none(),
+        worth: worth::sentence(doubt.as_ref(), run.traitors),
+        in_time: known.late(run.traitors).is_none(),
+        lacked: known.lacked.clone(),
+        unsent: known.unsent.clone(),
+        log_stored: is_stored,
+        receipt: base64::encode(&outcome.receipt),
+    };
+    Line::Decided { decided: decided.into() }.to_string().into()
 }
 
 /// The line of proposals that are lost, by their runs.
 pub fn lost_line(file: &NodeFile, lost: &BTreeMap<u32, u8>, why: &str) -> Arc<str> {
-    let named = |(run, order): (&u32, &u8)| json!({ "run": run, "value": file.name_of((*order).into()).map(|name| json!({ "name": name })) });
-    json!({ "lost": { "system": hex::encode(file.system.id), "proposals": lost.iter().map(named).collect::<Vec<_>>(), "why": why } }).to_string().into()
+    let proposals = lost.iter().map(|(&run, &order)| Proposal { run, value: value_of(file, order.into()) });
+    let (system, proposals) = (hex::encode(file.system.id), proposals.collect());
+    Line::Lost { lost: Lost { system, proposals, why: why.into() } }.to_string().into()
 }
 
 /// Takes away a socket that nobody serves. Nothing else that is there is touched.
@@ -145,7 +158,7 @@ async fn next_decision(listening: &mut Option<Listening>) -> Arc<str> {
     match listening {
         Some(listening) => match listening.decisions.recv().await {
             Ok(line) => line,
-            Err(RecvError::Lagged(count)) => json!({ "missed_decisions": count }).to_string().into(),
+            Err(RecvError::Lagged(count)) => Line::Missed { missed_decisions: count }.to_string().into(),
             Err(RecvError::Closed) => std::future::pending().await,
         },
         None => std::future::pending().await,
@@ -248,7 +261,7 @@ impl Client {
                     Ok(None) => return Ok(false),
                     Err(told) => {
                         self.refuse("request");
-                        self.write(&json!({ "refused": told.to_string() }).to_string()).await?;
+                        self.write(&Line::Refused { refused: told.to_string() }.to_string()).await?;
                         return Err(told);
                     }
                 },
@@ -268,25 +281,25 @@ impl Client {
         })
     }
 
-    fn answer(&mut self, line: &[u8]) -> Json {
+    fn answer(&mut self, line: &[u8]) -> Line {
         match serde_json::from_slice(line) {
             Ok(Request::Propose { value, run }) => match propose(&self.nodes, &value, run) {
                 Ok(proposed) => proposed,
-                Err(why) => json!({ "refused": why }),
+                Err(why) => Line::Refused { refused: why },
             },
-            Ok(Request::Decisions) => self.listen(),
-            Ok(Request::Status) => json!({ "status": status_of_all(&self.nodes) }),
-            Ok(Request::Drain) => {
+            Ok(Request::Decisions {}) => self.listen(),
+            Ok(Request::Status {}) => Line::Status { status: status_of_all(&self.nodes).into() },
+            Ok(Request::Drain {}) => {
                 self.nodes.drain();
-                json!({ "draining": true })
+                Line::Draining { draining: true }
             }
-            Ok(Request::AcceptStep) => accept_step(&self.nodes),
-            Err(told) => json!({ "refused": told.to_string() }),
+            Ok(Request::AcceptStep {}) => accept_step(&self.nodes),
+            Err(told) => Line::Refused { refused: told.to_string() },
         }
     }
 
     /// Begins to listen to decisions, if there is a place.
-    fn listen(&mut self) -> Json {
+    fn listen(&mut self) -> Line {
         let place = match self.listening.take() {
             Some(listening) => Ok(listening._place),
             None => self.listeners.clone().try_acquire_owned(),
@@ -294,39 +307,38 @@ impl Client {
         match place {
             Ok(_place) => {
                 self.listening = Some(Listening { decisions: self.nodes.now().decisions.subscribe(), _place });
-                json!({ "listening": true })
+                Line::Listening { listening: true }
             }
             Err(_) => {
                 self.refuse("listeners");
-                json!({ "refused": format!("{MOST_LISTENERS} applications listen to decisions already") })
+                Line::Refused { refused: format!("{MOST_LISTENERS} applications listen to decisions already") }
             }
         }
     }
 }
 
 /// Has the clock be believed, which was set ahead.
-fn accept_step(nodes: &Nodes) -> Json {
+fn accept_step(nodes: &Nodes) -> Line {
     match nodes.all().filter_map(|node| node.guard.accept()).max() {
         Some(by_ms) => {
             tracing::info!(by_ms, "a step of the clock was accepted");
-            json!({ "accepted_ms": by_ms })
+            Line::Accepted { accepted_ms: by_ms }
         }
-        None => json!({ "refused": "no step of the clock waits" }),
+        None => Line::Refused { refused: "no step of the clock waits".into() },
     }
 }
 
 /// Keeps a proposal for a run that has not begun, in which this node proposes. Tells the system and the run, and the value whose
 /// place it took.
-fn propose_to(node: &Shared, value: &Value, run: Option<u32>) -> Result<Json, String> {
+fn propose_to(node: &Shared, value: &Value, run: Option<u32>) -> Result<Line, String> {
     let order = *node.file.orders.get(&value.name).ok_or("the table has no order of this name")?;
     let (run, replaced) = node.propose(run, order)?;
-    let name_of = |order: u8| node.file.name_of(order.into()).map(|name| Value { name: name.into() });
-    let system = hex::encode(node.file.system.id);
-    Ok(json!({ "proposed": value, "system": system, "run": run, "replaced": replaced.and_then(name_of) }))
+    let replaced = replaced.and_then(|order| value_of(&node.file, order.into()));
+    Ok(Line::Proposed { proposed: value.clone(), system: hex::encode(node.file.system.id), run, replaced })
 }
 
 /// As `propose_to`, of the present system. Without a number it is of the next system where no run is left in the present one.
-fn propose(nodes: &Nodes, value: &Value, run: Option<u32>) -> Result<Json, String> {
+fn propose(nodes: &Nodes, value: &Value, run: Option<u32>) -> Result<Line, String> {
     let told = propose_to(nodes.now(), value, run);
     match (nodes.from_now().get(1), run) {
         (Some(next), None) => told.or_else(|_| propose_to(next, value, None)),
@@ -335,44 +347,70 @@ fn propose(nodes: &Nodes, value: &Value, run: Option<u32>) -> Result<Json, Strin
 }
 
 /// What is known of the clock.
-fn clock_told(look: &Look) -> Json {
-    let told = &look.estimate;
-    json!({ "synchronised": told.is_synchronised, "most_error_us": told.most_error_us, "offset_us": told.offset_us,
-            "error_us": look.doubt.error_us, "silent_s": look.doubt.silent.as_secs(), "ahead_ms": look.ahead_ms,
-            "steps": look.steps })
+fn clock_told(look: &Look) -> answers::Clock {
+    answers::Clock {
+        synchronised: look.estimate.is_synchronised,
+        most_error_us: look.estimate.most_error_us,
+        offset_us: look.estimate.offset_us,
+        error_us: look.doubt.error_us,
+        silent_s: look.doubt.silent.as_secs(),
+        ahead_ms: look.ahead_ms,
+        steps: look.steps,
+    }
+}
+
+/// What is known of the runs since the node was started.
+fn runs_told(counts: &Counts) -> answers::Runs {
+    answers::Runs {
+        begun: counts.begun.get(),
+        decided: counts.decided.get(),
+        late: counts.late.get(),
+        missed: counts.missed.get(),
+        failed: counts.failed.get(),
+        under_way: counts.under_way.get(),
+    }
+}
+
+/// What is known of the logs.
+fn spool_told(shared: &Shared) -> answers::Spool {
+    let counts = &shared.counts;
+    answers::Spool {
+        logs: counts.spool_logs.get(),
+        bytes: counts.spool_bytes.get(),
+        waiting: counts.spool_waiting.get(),
+        refused: counts.spool_refused.get(),
+        unstored: counts.spool_unstored.get(),
+        stuck: shared.spool.passed_by(),
+    }
 }
 
 /// What the node of the present system says of itself, and that of the next one, if there is one.
-fn status_of_all(nodes: &Nodes) -> Json {
-    let mut told = status(nodes.now());
-    if let Some(next) = nodes.from_now().get(1) {
-        told["next"] = status(next);
-    }
-    told
+fn status_of_all(nodes: &Nodes) -> Status {
+    let next = nodes.from_now().get(1).map(|next| status(next).into());
+    Status { next, ..status(nodes.now()) }
 }
 
 /// What a node says of itself.
-fn status(shared: &Shared) -> Json {
-    let (counts, look) = (&shared.counts, shared.guard.look());
+fn status(shared: &Shared) -> Status {
+    let counts = &shared.counts;
     let peers = shared.links.all().map(|link| {
         let number = link.peer.number;
-        json!({ "number": number, "connected": counts.connected.with_label_values(&[&number.to_string()]).get() > 0 })
+        let connected = counts.connected.with_label_values(&[&number.to_string()]).get() > 0;
+        answers::Peer { number, connected }
     });
-    json!({
-        "node": shared.file.node.number,
-        "system": hex::encode(shared.file.system.id),
-        "newest_run": counts.newest.get(),
-        "runs": { "begun": counts.begun.get(), "decided": counts.decided.get(), "late": counts.late.get(),
-                  "missed": counts.missed.get(), "failed": counts.failed.get(), "under_way": counts.under_way.get() },
-        "sets_left": counts.sets_left.get(),
-        "draining": shared.draining.load(Ordering::SeqCst),
-        "waits_for": shared.waits_for().map(|it| it.to_string()),
-        "clock": clock_told(&look),
-        "peers": peers.collect::<Vec<_>>(),
-        "spool": { "logs": counts.spool_logs.get(), "bytes": counts.spool_bytes.get(),
-                   "waiting": counts.spool_waiting.get(), "refused": counts.spool_refused.get(),
-                   "unstored": counts.spool_unstored.get(), "stuck": shared.spool.passed_by() },
-    })
+    Status {
+        node: shared.file.node.number,
+        system: hex::encode(shared.file.system.id),
+        newest_run: counts.newest.get(),
+        runs: runs_told(counts),
+        sets_left: counts.sets_left.get(),
+        draining: shared.draining.load(Ordering::SeqCst),
+        waits_for: shared.waits_for().map(|it| it.to_string()),
+        clock: clock_told(&shared.guard.look()),
+        peers: peers.collect(),
+        spool: spool_told(shared),
+        next: None,
+    }
 }
 
 /// Asks a running node, and gives the lines that it answers.
@@ -433,6 +471,23 @@ mod tests {
         assert_eq!((status(&socket), socket.exists()), (0, false));
         assert_eq!(std::fs::read(&file).expect("a file"), b"precious");
         std::fs::remove_dir_all(&folder).expect("taken away");
+    }
+
+    #[test]
+    fn requests_have_the_members_that_they_have() {
+        let takes = |request: &str| serde_json::from_str::<Request>(request).is_ok();
+        for ask in ["decisions", "status", "drain", "accept-step"] {
+            assert!(takes(&format!("{{\"ask\": \"{ask}\"}}")), "{ask}");
+            assert!(!takes(&format!("{{\"ask\": \"{ask}\", \"more\": 1}}")), "{ask}");
+        }
+        assert!(takes(r#"{"ask": "propose", "value": {"name": "close"}}"#));
+        for more in [r#""run": 7"#, r#""run": null"#] {
+            assert!(takes(&format!(r#"{{"ask": "propose", "value": {{"name": "close"}}, {more}}}"#)), "{more}");
+        }
+        for wrong in [r#""run": -1"#, r#""more": 1"#, r#""value": {"name": "close"}"#] {
+            assert!(!takes(&format!(r#"{{"ask": "propose", "value": {{"name": "close"}}, {wrong}}}"#)), "{wrong}");
+        }
+        assert!(!takes(r#"{"ask": "propose", "value": {"name": "close", "more": 1}}"#));
     }
 
     const LIMIT: Duration = Duration::from_millis(200);

@@ -1,6 +1,7 @@
 //! A node that goes on: it begins each run by the clock, and keeps its log.
 
 mod ahead;
+mod answers;
 pub mod counts;
 mod inbox;
 pub mod keys;

@@ -15,9 +15,9 @@ use std::sync::{Arc, Mutex, MutexGuard};
 use std::thread;
 use std::time::{Duration, Instant};
 
-use serde_json::{json, Value as Json};
 use tokio::sync::{oneshot, Notify};
 
+use super::answers::Stuck;
 use super::counts::Counts;
 use super::shelf::{Job, Shelf};
 use crate::config::NodeFile;
@@ -387,12 +387,16 @@ impl Spool {
     }
 
     /// The logs that are passed by, with the watcher and the reason.
-    pub fn passed_by(&self) -> Vec<Json> {
+    pub fn passed_by(&self) -> Vec<Stuck> {
         let all = self.logs.all();
         let tries =
             all.waiting.iter().flat_map(|(run, log)| log.wanted.iter().map(move |(place, tries)| (run, place, tries)));
         let passed_by = tries.filter(|(.., tries)| tries.is_passed_by());
-        let named = |(run, place, tries): (&u32, &usize, &Tries)| json!({ "run": run, "watcher": self.logs.watchers[*place], "why": tries.why });
+        let named = |(&run, &place, tries): (&u32, &usize, &Tries)| Stuck {
+            run,
+            watcher: self.logs.watchers[place],
+            why: tries.why.clone(),
+        };
         passed_by.map(named).take(MOST_TOLD).collect()
     }
 
@@ -680,7 +684,8 @@ mod tests {
         let got = ship_until(&spool, answers, is_done).await;
         assert_eq!((got.iter().filter(|&&run| run == 3).count(), runs_of(&spool)[0].clone()), (3, vec![3, 6, 7]));
         let told = spool.passed_by();
-        assert_eq!((told.len(), &told[0]), (4, &json!({ "run": 3, "watcher": "127.0.0.1:1", "why": "third" })));
+        let third = Stuck { run: 3, watcher: "127.0.0.1:1".parse().expect("an address"), why: "third".into() };
+        assert_eq!((told.len(), &told[0]), (4, &third));
         end(spool);
     }
 

@@ -8,7 +8,9 @@ use std::collections::BTreeSet;
 /// A frame of a round, and the node at its other end.
 #[derive(Debug, Clone, Copy, PartialEq, Eq, serde::Serialize)]
 pub struct Missed {
+    /// The round.
     pub round: u32,
+    /// The node.
     pub node: u32,
 }
 

@@ -33,6 +33,13 @@ use keep::{Keeper, Runs, Times};
 const MOST_JOBS: usize = 64;
 const MOST_ALARMS: usize = 16;
 
+/// What the labels of metrics say.
+const REFUSED: &str =
+    "Messages that were refused: message (none that a node sends), number (no run that has begun), bytes (no \
+    compressed log), unsealed (not sealed in this run), third (a third log of a run).";
+const FAILURES: &str =
+    "What failed: disk (it did not take something), judging (of a run), hook (the program of an alarm).";
+
 /// What is counted.
 pub struct Counts {
     pub logs: IntCounterVec,
@@ -62,29 +69,30 @@ impl Counts {
             let made = IntGauge::new(format!("vamuretu_watch_{name}"), help)?;
             registry.register(Box::new(made.clone())).map(|()| made)
         };
-        let convictions = IntCounter::new("vamuretu_watch_convictions_total", "Convictions of runs that were judged")?;
+        let gauges = |name: &str, help: &str, label: &str| {
+            let made = IntGaugeVec::new(Opts::new(format!("vamuretu_watch_{name}"), help), &[label])?;
+            registry.register(Box::new(made.clone())).map(|()| made)
+        };
+        let convictions = IntCounter::new("vamuretu_watch_convictions_total", "Convictions of runs that were judged.")?;
         registry.register(Box::new(convictions.clone()))?;
-        let silent = Opts::new("vamuretu_watch_silent_runs", "Runs one behind another in which no log of a node came");
-        let silent = IntGaugeVec::new(silent, &["node"])?;
-        registry.register(Box::new(silent.clone()))?;
-        let judging = HistogramOpts::new("vamuretu_watch_judging_seconds", "Seconds to judge a run");
+        let judging = HistogramOpts::new("vamuretu_watch_judging_seconds", "How long a run took to be judged.");
         let judging = Histogram::with_opts(judging.buckets(vec![0.001, 0.003, 0.01, 0.03, 0.1, 0.3, 1.0, 3.0, 10.0]))?;
         registry.register(Box::new(judging.clone()))?;
         registry.register(Box::new(crate::lines::dropped()))?;
         Ok(Counts {
-            logs: vector("logs_total", "Logs that were acknowledged", "kept")?,
-            refused: vector("refused_total", "Messages that were refused", "reason")?,
-            runs: vector("runs_total", "Runs that were judged", "verdict")?,
+            logs: vector("logs_total", "Logs that were acknowledged: new, or known before.", "kept")?,
+            refused: vector("refused_total", REFUSED, "reason")?,
+            runs: vector("runs_total", "Runs that were judged: agreed, explained, no or gap.", "verdict")?,
             convictions,
-            alarms: vector("alarms_total", "Alarms that were raised", "kind")?,
-            failures: vector("failures_total", "What the disk did not take, and alarms whose program failed", "of")?,
-            bytes: vector("bytes_total", "Bytes of bundles, and those that were stored of them", "of")?,
-            open: gauge("open_runs", "Runs for which logs wait")?,
-            next: gauge("next_run", "The first run that was not judged")?,
-            clock_trusted: gauge("clock_trusted", "1 while the clock is believed")?,
-            clock_ahead: gauge("clock_ahead_seconds", "The step ahead that is not believed, or 0")?,
-            rebuilding: gauge("rebuilding_folders", "Folders whose runs are still compared with the index")?,
-            silent,
+            alarms: vector("alarms_total", "Alarms that were raised, by their kind.", "kind")?,
+            failures: vector("failures_total", FAILURES, "of")?,
+            bytes: vector("bytes_total", "Bytes of bundles, and of stored files of these.", "of")?,
+            open: gauge("open_runs", "Runs for which logs wait.")?,
+            next: gauge("next_run", "The first run that was not judged.")?,
+            clock_trusted: gauge("clock_trusted", "1 while the clock is believed.")?,
+            clock_ahead: gauge("clock_ahead_seconds", "The step ahead that is not believed, or 0.")?,
+            rebuilding: gauge("rebuilding_folders", "Folders whose runs are still compared with the index.")?,
+            silent: gauges("silent_runs", "Runs one behind another in which no log of a node came.", "node")?,
             judging,
         })
     }
@@ -165,5 +173,20 @@ async fn serve(file: &WatchFile, door: Door, registry: Registry, worker: &thread
                 return Err(End::failed("the thread that keeps logs has ended"));
             },
         }
+    }
+}
+
+#[cfg(test)]
+mod tests {
+    use super::*;
+
+    #[test]
+    fn each_metric_is_on_the_page() {
+        let registry = Registry::new();
+        let counts = Counts::new(&registry).expect("metrics");
+        let vectors = [&counts.logs, &counts.refused, &counts.runs, &counts.alarms, &counts.failures, &counts.bytes];
+        vectors.iter().for_each(|of| of.with_label_values(&["0"]).inc());
+        counts.silent.with_label_values(&["0"]).set(1);
+        metrics::tests::on_the_page("### Metrics of a watcher", &registry);
     }
 }

@@ -1,0 +1,280 @@
+"""The tables of docs/REFERENCE.md and the schema docs/socket.schema.json, made of the sources of the program vamuretu.
+
+tools/tables.py writes them, and compares them. What a key, a member of a line or a metric is, its comment or its help says in
+the source. Of alarms, which the pages tell in their own words, only the names are compared.
+"""
+import json
+import os
+import re
+
+from rust_types import types_of
+from version import TOP, read
+
+SOURCE = os.path.join(TOP, "vamuretu", "src")
+REFERENCE, ARCHIVE = (os.path.join(TOP, "docs", name) for name in ("REFERENCE.md", "ARCHIVE.md"))
+SCHEMA = os.path.join(TOP, "docs", "socket.schema.json")
+# The types of the two files, and whose they are.
+FILES = {"NodeFile": "node", "WatchFile": "watcher"}
+# What stands for a type in the column of values, and for a number by the end of its name.
+VALUES = {"PathBuf": "path", "SocketAddr": "address and port", "IpAddr": "address", "Pin": "pin", "Id": "64 hexadecimal digits"}
+VALUES |= {"String": "text", "bool": "true or false", "Orders": "table of numbers"}
+UNITS = {"_ms": "milliseconds", "_us": "microseconds", "_s": "seconds", "_ppm": "millionths", "bytes": "bytes", "days": "days"}
+# The least and the greatest number of a type. A greater one than 2^63 - 1 can't stand in TOML.
+NUMBERS = {"u8": (0, 255), "u32": (0, 2**32 - 1), "u64": (0, None), "i64": (None, None)}
+MOST = {"u8": "below 256", "u32": "below 2^32", "u64": "below 2^63"}
+TYPES_OF_JSON = {"bool": "boolean", "String": "string", "SocketAddr": "string"}
+
+
+def source(*names):
+    return read(os.path.join(SOURCE, *names))
+
+
+def inner(kind):
+    """The type inside of a list, a box or one that need not be there."""
+    found = re.fullmatch(r"(?:Option|Vec|Box)<(.+)>", kind)
+    return inner(found[1]) if found else kind
+
+
+def row(*cells):
+    return "| " + " | ".join(cells) + " |"
+
+
+def plural(word):
+    return f"{word}es" if word.endswith("s") else f"{word}s"
+
+
+def unit_of(item):
+    """What a number counts."""
+    return next((unit for end, unit in UNITS.items() if item.name.endswith(end)), "number")
+
+
+# ---- the configuration
+
+
+def types_of_files():
+    """The types of the configurations."""
+    return types_of(source("config.rs"))
+
+
+def value_of(item, types):
+    """What stands in the column of values."""
+    kind = inner(item.type)
+    if kind in types:
+        return " or ".join(f'`"{it.name.lower()}"`' for it in types[kind].members)
+    if item.has('deserialize_with = "moment"'):
+        return "moment"
+    told = VALUES.get(kind) or unit_of(item)
+    return f"list of {plural(told)}" if item.type.startswith("Vec<") else told
+
+
+def default_of(item):
+    """What holds where the key is not there."""
+    told, named = item.parts().get("Default"), item.value_of("default")
+    if named:
+        return re.search(rf"fn {named}\(\) -> \w+ \{{\s*(\S+)\s*\}}", source("config.rs"))[1]
+    may_lack = item.type.startswith("Option<") or item.has("(default)")
+    return told or ("required" if not may_lack else "0" if item.type in NUMBERS else "none")
+
+
+def rows_of_table(item, whose, types):
+    """The row of a table, and those of its keys."""
+    kind, is_list = inner(item.type), item.type.startswith("Vec<")
+    name = f"[[{item.name}]]" if is_list else f"[{item.name}]"
+    parts, value = item.parts(), "tables" if is_list else VALUES.get(kind, "table")
+    yield row(f"`{name}`", whose, value, default_of(item), parts.get("Bounds", ""), parts[""])
+    for key in types[kind].members if kind in types else []:
+        parts, value = key.parts(), value_of(key, types)
+        bounds = parts.get("Bounds") or ("" if key.has("deserialize_with") else MOST.get(key.type, ""))
+        yield row(f"`{key.name}`", whose, value, default_of(key), bounds, parts[""])
+
+
+def configuration():
+    """A row for each table and each key, those of a node first."""
+    types = types_of_files()
+    tables = {whose: {it.name: it for it in types[name].members} for name, whose in FILES.items()}
+    yield from (row("Key", "Whose", "Value", "Without it", "Bounds", "What it is"), "|---|---|---|---|---|---|")
+    for name in dict.fromkeys(name for of in tables.values() for name in of):
+        having = [whose for whose, of in tables.items() if name in of]
+        yield from rows_of_table(tables[having[0]][name], "both" if len(having) > 1 else having[0], types)
+
+
+# ---- the socket
+
+
+def types_of_socket():
+    """The types of requests and lines."""
+    return types_of(source("node", "local.rs")) | types_of(source("node", "answers.rs")) | types_of(source("node", "worth.rs"))
+
+
+def word_of(request):
+    """What `ask` is in a request."""
+    return request.value_of("rename") or request.name.lower()
+
+
+def spelled(item, types, in_request=False):
+    """What stands in the column of values for a member."""
+    kind = inner(item.type)
+    told = "object" if kind in types else VALUES.get(kind) or unit_of(item)
+    told = f"list of {plural(told)}" if item.type.startswith("Vec<") else told
+    told = f"{told} or null" if item.type.startswith("Option<") and not item.has("skip_serializing_if") else told
+    return f"{told}, or not there" if may_be_away(item, in_request) else told
+
+
+def members_of(item, types, before=""):
+    """The members of an object with their paths, and what is inside of them behind each."""
+    for it in item.members:
+        path = f"{before}{it.name}{'[]' if it.type.startswith('Vec<') else ''}"
+        yield path, it
+        if inner(it.type) in types and inner(it.type) != "Status":
+            yield from members_of(types[inner(it.type)], types, f"{path}.")
+
+
+def requests():
+    """A row for each request, and for each member of it."""
+    types = types_of_socket()
+    yield from (row("Member", "Value", "What it is"), "|---|---|---|")
+    for request in types["Request"].members:
+        yield row("`ask`", f'`"{word_of(request)}"`', request.parts()[""])
+        for path, it in members_of(request, types):
+            yield row(f"`{path}`", spelled(it, types, True), it.parts()[""])
+
+
+def lines():
+    """A row for each line that a node writes, and for each member of it but those of the status."""
+    types = types_of_socket()
+    yield from (row("Member", "Value", "What it says"), "|---|---|---|")
+    for line in types["Line"].members:
+        (path, first), *others = members_of(line, types)
+        yield row(f"**`{path}`**", spelled(first, types), line.parts()[""])
+        yield from (row(f"`{path}`", spelled(it, types), it.parts()[""]) for path, it in others)
+
+
+def status():
+    """A row for each member of the status."""
+    types = types_of_socket()
+    yield from (row("Member", "Value", "What it says"), "|---|---|---|")
+    for path, it in members_of(types["Status"], types):
+        yield row(f"`{path}`", spelled(it, types), it.parts()[""])
+
+
+def schema_of(kind, types):
+    """The schema of a type."""
+    if kind.startswith("Option<"):
+        return {"oneOf": [schema_of(kind[len("Option<"):-1], types), {"type": "null"}]}
+    if kind.startswith("Vec<"):
+        return {"type": "array", "items": schema_of(kind[len("Vec<"):-1], types)}
+    if inner(kind) in types:
+        return {"$ref": f"#/$defs/{inner(kind).lower()}"}
+    if kind in NUMBERS:
+        bounds = zip(("minimum", "maximum"), NUMBERS[kind])
+        return {"type": "integer", **{name: bound for name, bound in bounds if bound is not None}}
+    return {"type": TYPES_OF_JSON[kind]}
+
+
+def may_be_away(item, in_request):
+    """Whether a member may lack where it would be null: in a request, or where it is not written then."""
+    return item.type.startswith("Option<") and bool(in_request or item.has("skip_serializing_if"))
+
+
+def object_of(item, types, **constant):
+    """The schema of an object. A request has no members but those that it may have."""
+    properties = {name: {"const": word} for name, word in constant.items()}
+    properties |= {it.name: {"description": it.parts()[""], **schema_of(it.type, types)} for it in item.members}
+    may_lack = [it.name for it in item.members if may_be_away(it, constant)]
+    told = {"type": "object", "description": item.parts()[""], "properties": properties}
+    told["required"] = [name for name in properties if name not in may_lack]
+    return told | ({"additionalProperties": False} if constant or item.has("deny_unknown_fields") else {})
+
+
+def schema():
+    """The text of the schema."""
+    types = types_of_socket()
+    known = {name: it for name, it in types.items() if re.search(r"\bSerialize\b", " ".join(it.attributes)) and name != "Line"}
+    told = {"$schema": "https://json-schema.org/draft/2020-12/schema", "title": "What is said at the socket of a node of vamuretu"}
+    told["description"] = "A request or a line of docs/REFERENCE.md, which says what may change. tools/tables.py makes this file."
+    told["oneOf"] = [{"$ref": "#/$defs/request"}, {"$ref": "#/$defs/line"}]
+    told["$defs"] = {"request": {"oneOf": [object_of(it, types, ask=word_of(it)) for it in types["Request"].members]}}
+    told["$defs"]["line"] = {"oneOf": [object_of(it, types) for it in types["Line"].members]}
+    told["$defs"] |= {name.lower(): object_of(it, types) for name, it in known.items()}
+    return json.dumps(told, indent=1) + "\n"
+
+
+# ---- the metrics
+
+# The ways in which the sources make a metric: its type, what its name begins with, and ends with. Behind it come the name and the
+# help, and perhaps a label.
+WAYS = {
+    "make.counter": ("counter", "vamuretu_", ""), "make.counters": ("counter", "vamuretu_", ""),
+    "make.gauge": ("gauge", "vamuretu_", ""), "make.gauges": ("gauge", "vamuretu_", ""),
+    "make.seconds": ("gauge", "vamuretu_", "_seconds"), "make.histogram": ("histogram", "vamuretu_", "_seconds"),
+    "vector": ("counter", "vamuretu_watch_", ""), "gauge": ("gauge", "vamuretu_watch_", ""),
+    "gauges": ("gauge", "vamuretu_watch_", ""), "IntCounter::new": ("counter", "", ""), "HistogramOpts::new": ("histogram", "", ""),
+}
+MADE = re.compile(r'(?<![\w.])([\w:]+(?:\s*\.\w+)?)\(\s*"(\w+)",\s*("[^"]*"|\w+)(?:,\s*"(\w+)")?')
+SOURCES_OF_METRICS = {"node": [("node", "counts.rs")], "watcher": [("watch", "mod.rs")]}
+SHARED_METRICS = [("lines.rs",), ("metrics.rs",)]
+
+
+def text_of(told, before):
+    """A text: a literal, or a constant or a variable that stands before it."""
+    literal = told if told.startswith('"') else re.findall(rf'\b{told}(?:: &str)? =\s*("[^"]*");', before)[-1]
+    return re.sub(r"\\\n\s*", "", literal.strip('"'))
+
+
+def metrics_in(text):
+    """The metrics that a source makes, each with its type, label and help."""
+    for found in MADE.finditer(text):
+        way, name, told, label = found.groups()
+        if known := WAYS.get(re.sub(r"\s", "", way)):
+            kind, before, behind = known
+            yield f"{before}{name}{behind}", kind, label or "", text_of(told, text[:found.start()])
+
+
+def metrics(whose):
+    """A row for each metric of a node or a watcher."""
+    yield from (row("Metric", "Type", "Label", "What it is"), "|---|---|---|---|")
+    for name in [*SOURCES_OF_METRICS[whose], *SHARED_METRICS]:
+        for metric, kind, label, said in metrics_in(source(*name)):
+            yield row(f"`{metric}`", kind, f"`{label}`" if label else "", said)
+
+
+# ---- the alarms
+
+
+def named_in(page, heading):
+    """The names in the first column of the table behind a heading."""
+    table = page.partition(heading)[2].partition("\n\n")[0]
+    return {name for line in table.splitlines() for name in re.findall(r"`([a-z-]+)`", line.split("|")[1])}
+
+
+def raised_in(folder, way):
+    """The alarms that the sources of a folder raise."""
+    names = sorted(os.listdir(os.path.join(SOURCE, folder)))
+    return {alarm for name in names if name.endswith(".rs") for alarm in re.findall(way, source(folder, name))}
+
+
+def wrong_alarms():
+    """The alarms that a page lacks, or has too many."""
+    by_page = [(REFERENCE, "| `alarm` | When | What to do |\n", "node", r'\balarm = "([a-z-]+)"')]
+    by_page += [(ARCHIVE, "| Kind | When |\n", "watch", r'(?:of_run\(|of_node\(|Some\(\(|then\(\|\| \()\s*"([a-z-]+)"')]
+    for page, heading, folder, way in by_page:
+        apart = named_in(read(page), heading) ^ raised_in(folder, way)
+        yield from (f"{os.path.relpath(page, TOP)}: the alarm {name} is there or in the code alone" for name in sorted(apart))
+
+
+# The tables of the page, each by the heading that it stands behind.
+TABLES = {
+    "## The configuration": configuration,
+    "### Requests": requests,
+    "### Lines": lines,
+    "### The status": status,
+    "### Metrics of a node": lambda: metrics("node"),
+    "### Metrics of a watcher": lambda: metrics("watcher"),
+}
+
+
+def wrong():
+    """What is wrong with the sources: a key, a member or a metric that has no comment, and alarms that a page does not name."""
+    for heading, rows in TABLES.items():
+        yield from (f"vamuretu/src: a row behind {heading} has no comment: {it}" for it in rows() if it.endswith("|  |"))
+    yield from wrong_alarms()
