@@ -14,10 +14,10 @@ SOURCE = os.path.join(TOP, "vamuretu", "src")
 REFERENCE, ARCHIVE = (os.path.join(TOP, "docs", name) for name in ("REFERENCE.md", "ARCHIVE.md"))
 SCHEMA = os.path.join(TOP, "docs", "socket.schema.json")
 # The types of the two files, and whose they are.
-FILES = {"NodeFile": "node", "WatchFile": "watcher"}
+FILES = {"NodeFile": "a node", "WatchFile": "a watcher"}
 # What stands for a type in the column of values, and for a number by the end of its name.
 VALUES = {"PathBuf": "path", "SocketAddr": "address and port", "IpAddr": "address", "Pin": "pin", "Id": "64 hexadecimal digits"}
-VALUES |= {"String": "text", "bool": "true or false", "Orders": "table of numbers"}
+VALUES |= {"String": "text", "bool": "true or false", "Orders": "table of numbers", "Value": "value"}
 UNITS = {"_ms": "milliseconds", "_us": "microseconds", "_s": "seconds", "_ppm": "millionths", "bytes": "bytes", "days": "days"}
 # The least and the greatest number of a type. A greater one than 2^63 - 1 can't stand in TOML.
 NUMBERS = {"u8": (0, 255), "u32": (0, 2**32 - 1), "u64": (0, None), "i64": (None, None)}
@@ -81,24 +81,28 @@ def rows_of_table(item, whose, types):
     kind, is_list = inner(item.type), item.type.startswith("Vec<")
     name = f"[[{item.name}]]" if is_list else f"[{item.name}]"
     parts, value = item.parts(), "tables" if is_list else VALUES.get(kind, "table")
-    yield row(f"`{name}`", whose, value, default_of(item), parts.get("Bounds", ""), parts[""])
+    yield row(f"**`{name}`** of {whose}", value, default_of(item), parts.get("Bounds", ""), parts[""])
     for key in types[kind].members if kind in types else []:
         parts, value = key.parts(), value_of(key, types)
         bounds = parts.get("Bounds") or ("" if key.has("deserialize_with") else MOST.get(key.type, ""))
-        yield row(f"`{key.name}`", whose, value, default_of(key), bounds, parts[""])
+        yield row(f"`{key.name}`", value, default_of(key), bounds, parts[""])
 
 
 def configuration():
     """A row for each table and each key, those of a node first."""
     types = types_of_files()
     tables = {whose: {it.name: it for it in types[name].members} for name, whose in FILES.items()}
-    yield from (row("Key", "Whose", "Value", "Without it", "Bounds", "What it is"), "|---|---|---|---|---|---|")
+    yield from (row("Key", "Value", "Without it", "Bounds", "What it is"), "|---|---|---|---|---|")
     for name in dict.fromkeys(name for of in tables.values() for name in of):
         having = [whose for whose, of in tables.items() if name in of]
         yield from rows_of_table(tables[having[0]][name], "both" if len(having) > 1 else having[0], types)
 
 
 # ---- the socket
+
+
+# The types of members whose own members a section of the page tells.
+TOLD_APART = ("Status", "Value")
 
 
 def types_of_socket():
@@ -114,7 +118,7 @@ def word_of(request):
 def spelled(item, types, in_request=False):
     """What stands in the column of values for a member."""
     kind = inner(item.type)
-    told = "object" if kind in types else VALUES.get(kind) or unit_of(item)
+    told = VALUES.get(kind) or ("object" if kind in types else unit_of(item))
     told = f"list of {plural(told)}" if item.type.startswith("Vec<") else told
     told = f"{told} or null" if item.type.startswith("Option<") and not item.has("skip_serializing_if") else told
     return f"{told}, or not there" if may_be_away(item, in_request) else told
@@ -125,7 +129,7 @@ def members_of(item, types, before=""):
     for it in item.members:
         path = f"{before}{it.name}{'[]' if it.type.startswith('Vec<') else ''}"
         yield path, it
-        if inner(it.type) in types and inner(it.type) != "Status":
+        if inner(it.type) in types and inner(it.type) not in TOLD_APART:
             yield from members_of(types[inner(it.type)], types, f"{path}.")
 
 
@@ -181,7 +185,8 @@ def object_of(item, types, **constant):
     properties = {name: {"const": word} for name, word in constant.items()}
     properties |= {it.name: {"description": it.parts()[""], **schema_of(it.type, types)} for it in item.members}
     may_lack = [it.name for it in item.members if may_be_away(it, constant)]
-    told = {"type": "object", "description": item.parts()[""], "properties": properties}
+    said = re.sub(r"\[([^\]]*)\]\([^)]*\)", r"\1", item.parts()[""])
+    told = {"type": "object", "description": said, "properties": properties}
     told["required"] = [name for name in properties if name not in may_lack]
     return told | ({"additionalProperties": False} if constant or item.has("deny_unknown_fields") else {})
 
@@ -232,10 +237,10 @@ def metrics_in(text):
 
 def metrics(whose):
     """A row for each metric of a node or a watcher."""
-    yield from (row("Metric", "Type", "Label", "What it is"), "|---|---|---|---|")
+    yield from (row("Metric", "Type", "What it is"), "|---|---|---|")
     for name in [*SOURCES_OF_METRICS[whose], *SHARED_METRICS]:
         for metric, kind, label, said in metrics_in(source(*name)):
-            yield row(f"`{metric}`", kind, f"`{label}`" if label else "", said)
+            yield row(f"`{metric}{{{label}}}`" if label else f"`{metric}`", kind, said)
 
 
 # ---- the alarms

@@ -640,8 +640,8 @@ mod tests {
     fn bounds_are_as_the_page_has_them() {
         let page = include_str!("../../docs/REFERENCE.md");
         let section = page.split("\n## ").find(|it| it.starts_with("The configuration\n")).expect("the section");
-        let rows = section.lines().filter(|line| line.starts_with("| `"));
-        let told: BTreeSet<&str> = rows.map(|row| row.split(" | ").nth(4).expect("a column").trim()).collect();
+        let rows = section.lines().filter(|line| line.starts_with("| ") && line.contains('`'));
+        let told: BTreeSet<&str> = rows.map(|row| row.split(" | ").nth(3).expect("a column").trim()).collect();
         assert_eq!(told, BOUNDS.iter().map(|it| it.0).chain([""]).collect());
         let text = four().replace("bound_ms = 20", "bound_ms = 0");
         for (bounds, key, may, may_not) in BOUNDS.iter().filter(|it| !it.1.is_empty()) {

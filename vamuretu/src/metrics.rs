@@ -92,8 +92,8 @@ pub mod tests {
     /// The row of a metric.
     fn row_of(family: &MetricFamily) -> String {
         let kind = format!("{:?}", family.get_field_type()).to_lowercase();
-        let label = family.get_metric()[0].get_label().first().map(|it| format!("`{}`", it.get_name()));
-        format!("| `{}` | {kind} | {} | {} |", family.get_name(), label.unwrap_or_default(), family.get_help())
+        let label = family.get_metric()[0].get_label().first().map(|it| format!("{{{}}}", it.get_name()));
+        format!("| `{}{}` | {kind} | {} |", family.get_name(), label.unwrap_or_default(), family.get_help())
     }
 
     #[test]
