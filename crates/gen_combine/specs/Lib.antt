@@ -1,0 +1,2 @@
+pub mod Combined
+pub mod Numbered
