@@ -27,8 +27,8 @@
      SM_FAULT    the input has a fault, and nothing was changed: *fault is its number
      SM_MEMORY   memory was refused, and the same call may be made again
      SM_LENGTH   the bytes are longer than the room, and nothing was changed: call again with room for *count bytes
-     SM_OTHER    the receipts are of another run than the one that is expected, or the record is of another system: of
-                 sm_node_shown and sm_node_state_seed alone
+     SM_OTHER    the receipts are of another run than the one that is expected, or the record or the admission is of
+                 another system: of sm_node_shown, sm_node_state_seed and sm_node_admit alone
 
    At SM_MEMORY nothing was changed, but by two functions: after sm_node_begin_round a round may be half begun, and
    after sm_node_end_round half ended. The same call continues it, and nothing is signed twice. Until it is done,
@@ -78,8 +78,8 @@ enum { SM_NO_ORDER = 255 };
 /* In place of the number of a run: no run was begun, or no run is told. */
 #define SM_NO_RUN UINT32_MAX
 
-/* The numbers of faults. docs/FORMATS.md says what H1 to H11, F1 to F8, B1 to B9 and Q1 to Q5
-   are. */
+/* The numbers of faults. docs/FORMATS.md says what H1 to H11, F1 to F8, B1 to B9, Q1 to Q5 and A1 to
+   A8 are. */
 enum sm_node_fault {
     SM_H1 = 1, SM_H2, SM_H3, SM_H4, SM_H5, SM_H6, SM_H7, SM_H8, SM_H9, SM_H10, SM_H11, /* of a header */
     SM_LEFT_OVER = 12,  /* bytes are left over behind a header */
@@ -95,7 +95,10 @@ enum sm_node_fault {
     SM_B1 = 41, SM_B2, SM_B3, SM_B4, SM_B5, SM_B6, SM_B7, SM_B8, SM_B9,
     SM_LONG_LOG = 50,   /* a log has 2^32 bytes or more */
     /* Of receipts. A fault of their header is reported as the header's, so SM_Q3 never comes. */
-    SM_Q1 = 61, SM_Q2, SM_Q3, SM_Q4, SM_Q5
+    SM_Q1 = 61, SM_Q2, SM_Q3, SM_Q4, SM_Q5,
+    /* Of an admission. A fault of the header of its system is reported as the header's, and any other one of the system
+       as SM_A3. */
+    SM_A1 = 71, SM_A2, SM_A3, SM_A4, SM_A5, SM_A6, SM_A7, SM_A8
 };
 
 /* A node, or keys: the content is the library's. */
@@ -119,6 +122,13 @@ typedef struct {
     uint8_t run_id[32];
     uint32_t round, sender, receiver, parcel_count;
 } sm_frame_head;
+
+/* What an admission tells of a run: its run id, the number of faulty nodes that it is planned for (m), and the number of
+   the node that proposes. */
+typedef struct {
+    uint8_t run_id[32];
+    uint32_t traitors, proposer;
+} sm_admitted;
 
 /* The general that a log is said to be of, and how many bytes the log has. */
 typedef struct {
@@ -234,6 +244,17 @@ uint32_t sm_node_bundle(const uint8_t *header, size_t header_bytes, uint32_t fau
    SM_MEMORY or SM_OTHER. */
 uint32_t sm_node_shown(const uint8_t run_id[32], const uint8_t *receipts, size_t receipt_bytes, uint32_t *order,
                        uint32_t *fault) SM_CALL(1, 4, 5);
+
+/* Tells the run with this number of the system with this id, which an admission of the run's set admits. So a device
+   that knows the id of a system alone knows the run id that sm_node_shown takes. The admission may come from anybody.
+   Faults are SM_A1 to SM_A6 and those of a header, then SM_A7 if the admission does not hold, then SM_A8 if the run is
+   not of its set. What is admitted is written at SM_OK alone.
+
+     SM_OTHER    the admission holds for the run, and is of another system
+
+   Returns SM_OK, SM_MISUSE, SM_FAULT, SM_MEMORY or SM_OTHER. */
+uint32_t sm_node_admit(const uint8_t system[32], uint32_t run, const uint8_t *admission, size_t admission_bytes,
+                       sm_admitted *admitted, uint32_t *fault) SM_CALL(1, 5, 6);
 
 /* Reads the numbers of a header from its bytes. The slot of a header of version 1 is 0. The numbers stay as they were if
    it is not SM_OK. Returns SM_OK, SM_MISUSE, SM_FAULT or SM_MEMORY. */
@@ -382,6 +403,14 @@ static inline const char *sm_node_fault_text(uint32_t fault) {
     case SM_Q3: return "the header of a receipt breaks a rule";
     case SM_Q4: return "the general, the order or a member of the set is none of the network's";
     case SM_Q5: return "a receipt has another header than the first";
+    case SM_A1: return "the bytes end before the admission does";
+    case SM_A2: return "the first four bytes are not SMA1";
+    case SM_A3: return "the system of the admission breaks a rule";
+    case SM_A4: return "the system has no set of this number";
+    case SM_A5: return "an opening has not one sibling for each level";
+    case SM_A6: return "bytes are left over behind the admission";
+    case SM_A7: return "the admission does not hold";
+    case SM_A8: return "the run is not of the set of the admission";
     default: return fault == 0 ? "no fault" : "a fault that this header does not know";
     }
 }
@@ -447,6 +476,14 @@ static inline uint32_t sm_checked_node_shown(const uint8_t run_id[32], const uin
     *fault = 0;
     if (sm_is_missing(receipts, receipt_bytes)) return SM_MISUSE;
     return sm_node_shown(run_id, receipts ? receipts : &none, receipt_bytes, order, fault);
+}
+SM_CALL(1, 5, 6)
+static inline uint32_t sm_checked_node_admit(const uint8_t system[32], uint32_t run, const uint8_t *admission,
+                                             size_t admission_bytes, sm_admitted *admitted, uint32_t *fault) {
+    uint8_t none = 0;
+    *fault = 0;
+    if (sm_is_missing(admission, admission_bytes)) return SM_MISUSE;
+    return sm_node_admit(system, run, admission ? admission : &none, admission_bytes, admitted, fault);
 }
 SM_CALL(11, 12, 13)
 static inline uint32_t sm_checked_node_bundle(const uint8_t *header, size_t header_bytes, uint32_t faulty,
@@ -522,6 +559,7 @@ static inline uint32_t sm_checked_node_frame_head(const uint8_t *frame, size_t f
 #define sm_node_log sm_checked_node_log
 #define sm_node_receipt sm_checked_node_receipt
 #define sm_node_shown sm_checked_node_shown
+#define sm_node_admit sm_checked_node_admit
 #define sm_node_bundle sm_checked_node_bundle
 #define sm_node_header_numbers sm_checked_node_header_numbers
 #define sm_node_rounds sm_checked_node_rounds

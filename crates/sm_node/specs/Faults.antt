@@ -7,6 +7,12 @@ use Rattle.gen_node.specs.declared.frame_fault.FrameFault.{FrameFault}
 use Rattle.gen_node.specs.FaultNumber.{fault_number}
 use Rattle.gen_receipt.specs.declared.receipt_fault.ReceiptFault.{ReceiptFault}
 use Rattle.gen_receipt.specs.declared.receipt_fault.ReceiptFault.TheVariants as receipts
+use Rattle.gen_system.specs.declared.admission_fault.AdmissionFault.{AdmissionFault}
+use Rattle.gen_system.specs.declared.admission_fault.AdmissionFault.TheVariants as admissions
+use Rattle.gen_system.specs.declared.system_fault.SystemFault.{SystemFault}
+use Rattle.gen_system.specs.declared.system_fault.SystemFault.TheVariants as systems
+use Rattle.sm_node.specs.declared.faults.AdmitFault.{AdmitFault}
+use Rattle.sm_node.specs.declared.faults.AdmitFault.TheVariants as admitting
 use Rattle.sm_node.specs.declared.faults.BytesFault.{BytesFault}
 use Rattle.sm_node.specs.declared.faults.BytesFault.TheVariants.{BadHeader, LeftOver}
 use Rattle.sm_node.specs.declared.faults.MakingFault.{MakingFault}
@@ -88,3 +94,25 @@ receipt_number receipts.UnknownMark = 62
 receipt_number (receipts.BadHeader f) = header_fault_number f
 receipt_number receipts.OutOfRange = 64
 receipt_number receipts.OtherRun = 65
+
+-- the number of a fault of an admission's system: that of its header's fault, or 73
+abbrev pub system_number : SystemFault → ℕ
+system_number (systems.BadHeader f) = header_fault_number f
+system_number rule = 73
+
+-- the number of a fault of an admission: 71 to 76, which is 70 more than its text has; or the number of its
+-- header's fault
+abbrev pub admission_number : AdmissionFault → ℕ
+admission_number admissions.Truncated = 71
+admission_number admissions.UnknownMark = 72
+admission_number (admissions.BadSystem f) = system_number f
+admission_number admissions.SetRange = 74
+admission_number admissions.OtherLevels = 75
+admission_number admissions.LeftOver = 76
+
+-- the number of a fault of an admission for a run: that of the admission's bytes, 77 if it does not hold, or 78
+-- if the run is of another set
+abbrev pub admit_number : AdmitFault → ℕ
+admit_number (admitting.Bytes f) = admission_number f
+admit_number admitting.Fails = 77
+admit_number admitting.OtherSet = 78

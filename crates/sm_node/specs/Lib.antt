@@ -1,3 +1,4 @@
+pub mod Admitting
 pub mod Asking
 pub mod Bundles
 pub mod Clock

@@ -4,6 +4,7 @@ ghost use Rattle.sm_node.specs.Faults as numbers;
 
 use gen_audit::BundleFault;
 use gen_net::HeaderFault;
+use gen_system::{AdmissionFault, SystemFault};
 use gen_types::GeneralNo;
 
 /// The number of a frame's fault is this much more than its text has.
@@ -75,6 +76,17 @@ pub enum GatherFault {
     LongWalk(SmPair),
     /// The bundle breaks this rule.
     Bundle(BundleFault),
+}
+
+/// Why bytes are no admission that holds of the set of a run.
+#[derive(Clone, Copy, Debug, PartialEq, Eq)]
+pub enum AdmitFault {
+    /// The bytes are no admission, by this fault.
+    Bytes(AdmissionFault),
+    /// The admission does not hold.
+    Fails,
+    /// The run is not of the admission's set.
+    OtherSet,
 }
 
 /// Returns the number of a fault of a header's bytes, 1 to 12.
@@ -165,6 +177,43 @@ impl GatherFault {
             GatherFault::LongWalk(pair) => pair,
             GatherFault::Header(_) => NO_PAIR,
             GatherFault::Bundle(_) => NO_PAIR,
+        }
+    }
+}
+
+/// Returns the number of a fault of an admission's system: that of the fault of its header, or 73.
+fn system_number(fault: SystemFault) -> u32
+    ensures { result ≡ numbers.system_number fault }
+{
+    match fault {
+        SystemFault::BadHeader(inner) => u32::from(inner.number()),
+        _ => 73,
+    }
+}
+
+/// Returns the number of a fault of an admission: 71 to 76, or that of the fault of a header.
+fn admission_number(fault: AdmissionFault) -> u32
+    ensures { result ≡ numbers.admission_number fault }
+{
+    match fault {
+        AdmissionFault::Truncated => 71,
+        AdmissionFault::UnknownMark => 72,
+        AdmissionFault::BadSystem(inner) => system_number(inner),
+        AdmissionFault::SetRange => 74,
+        AdmissionFault::OtherLevels => 75,
+        AdmissionFault::LeftOver => 76,
+    }
+}
+
+impl AdmitFault {
+    /// Returns the number of the fault: 71 to 78, or that of the fault of a header.
+    pub(crate) fn number(self) -> u32
+        ensures { result ≡ numbers.admit_number self }
+    {
+        match self {
+            AdmitFault::Bytes(inner) => admission_number(inner),
+            AdmitFault::Fails => 77,
+            AdmitFault::OtherSet => 78,
         }
     }
 }

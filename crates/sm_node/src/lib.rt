@@ -18,6 +18,7 @@
 #![tactic(auto)]
 
 ghost use Rattle.std.specs.Prelude.{◌≡◌, ◌<◌, ◌≤◌, None};
+ghost use Rattle.sm_node.specs.Admitting.{IsReplied, TellsAdmitted};
 ghost use Rattle.sm_node.specs.Asking.{Tells};
 ghost use Rattle.sm_node.specs.Bundles.{HandsBundle, logs_in, walks_by};
 ghost use Rattle.sm_node.specs.Clock.{TellsNext, mark_of};
@@ -31,6 +32,7 @@ ghost use Rattle.sm_node.specs.Starting.{MakesKeys, Starts};
 ghost use Rattle.sm_node.specs.States.{Advances, IsFirstRecord, IsSetOf, MakesSeed};
 ghost use Rattle.sm_node.specs.NodeReply.{IsTold};
 
+mod admitting;
 mod asking;
 mod bundles;
 mod clock;
@@ -48,6 +50,7 @@ mod starting;
 mod states;
 mod told;
 
+use crate::admitting::{SmAdmitted, tell_admitted};
 use crate::asking::{Question, ask};
 use crate::bundles::{BundleWalks, SmLog, hand_bundle};
 use crate::clock::{NO_RUN, mark_of};
@@ -242,6 +245,25 @@ pub extern "C" fn sm_node_shown(
     ensures { IsAnswered (TellsShown run_id.now receipts.now order.new fault.new) result }
 {
     tell_shown(alloc, run_id, receipts, order, fault).status()
+}
+
+/// Tells the run with this number that an admission admits in the system with this id: its run id, the number of traitors
+/// that it is planned for, and the node that is its commander. The number is 0 then. It is 3 if the bytes are no admission,
+/// if it does not hold, or if the run is not of its set, whose number is told, 4 if memory was refused, and 7 if it is of
+/// another system; what was in `admitted` stays.
+#[unsafe(no_mangle)]
+pub extern "C" fn sm_node_admit(
+    alloc: Global,
+    system: &[u8; 32],
+    run: u32,
+    admission: &[u8],
+    admitted: &mut SmAdmitted,
+    fault: &mut u32,
+) -> u32
+    ensures { IsReplied (TellsAdmitted system.now run admission.now
+        admitted.old admitted.new fault.new) result }
+{
+    tell_admitted(alloc, system, run, admission, admitted, fault).status()
 }
 
 /// Tells the order that a node that has ended decided.

@@ -5,6 +5,7 @@ says where they are looked for, and docs/EMBED.md of the sources what each call 
 """
 
 from ._clock import NextRun, next_run
+from ._devices import AdmittedRun, Device, NotObeyed, Refusal, admitted_run
 from ._faults import EqualRoots, InputFault, LibraryMissing, Misuse, Nobody, NodeFault, NoWalk, OlderState, OtherRun
 from ._faults import OtherSystem, StateFault, UsedSet
 from ._headers import Header, header, read_header
@@ -34,9 +35,11 @@ from ._verdicts import (
 __all__ = [
     "AcrossConviction",
     "Admitted",
+    "AdmittedRun",
     "CampaignVerdict",
     "Conviction",
     "Decision",
+    "Device",
     "EqualRoots",
     "Evidence",
     "Finding",
@@ -54,11 +57,13 @@ __all__ = [
     "Nobody",
     "Node",
     "NodeFault",
+    "NotObeyed",
     "OlderState",
     "OtherRun",
     "OtherSystem",
     "Receipt",
     "Receipts",
+    "Refusal",
     "RunDecision",
     "SetState",
     "StateFault",
@@ -69,6 +74,7 @@ __all__ = [
     "accuse",
     "admission",
     "admit",
+    "admitted_run",
     "audit",
     "audit_json",
     "bundle",

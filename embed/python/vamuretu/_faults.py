@@ -7,7 +7,9 @@ from typing import Optional, Tuple
 
 
 class NodeFault(enum.IntEnum):
-    """The numbers of faults of sm_node.h. docs/FORMATS.md says what H1 to H11, F1 to F8, B1 to B9 and Q1 to Q5 are."""
+    """The numbers of faults of sm_node.h. docs/FORMATS.md says what H1 to H11, F1 to F8, B1 to B9, Q1 to Q5 and A1 to A8
+    are.
+    """
 
     H1 = 1
     H2 = 2
@@ -60,6 +62,15 @@ class NodeFault(enum.IntEnum):
     Q3 = 63
     Q4 = 64
     Q5 = 65
+    A1 = 71
+    A2 = 72
+    A3 = 73
+    """The system of the admission breaks a rule, other than one of its header."""
+    A4 = 74
+    A5 = 75
+    A6 = 76
+    A7 = 77
+    A8 = 78
 
     @property
     def text(self) -> str:
@@ -110,13 +121,21 @@ _TEXTS = {
     NodeFault.Q3: "the header of a receipt breaks a rule",
     NodeFault.Q4: "the general, the order or a member of the set is none of the network's",
     NodeFault.Q5: "a receipt has another header than the first",
+    NodeFault.A1: "the bytes end before the admission does",
+    NodeFault.A2: "the first four bytes are not SMA1",
+    NodeFault.A3: "the system of the admission breaks a rule",
+    NodeFault.A4: "the system has no set of this number",
+    NodeFault.A5: "an opening has not one sibling for each level",
+    NodeFault.A6: "bytes are left over behind the admission",
+    NodeFault.A7: "the admission does not hold",
+    NodeFault.A8: "the run is not of the set of the admission",
 }
 
 
 class InputFault(ValueError):
     """What was handed in has a fault, and nothing was changed.
 
-    `line` is what sm_tool prints of the fault, as `fault B3 H6`. A call on nodes, headers, bundles or shown() has a `number`
+    `line` is what sm_tool prints of the fault, as `fault B3 H6`. A call on nodes, headers, bundles, shown() or a Device has a `number`
     too, whose `text` is the fault in words, and the line is made of its name. That of run_ids() is none of sm_tool's:
     show() tells the fault.
     """

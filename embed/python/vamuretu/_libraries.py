@@ -80,6 +80,12 @@ class FrameHead(ctypes.Structure):
     _fields_ = [("run_id", ctypes.c_uint8 * 32), *((name, c_uint32) for name in _names)]
 
 
+class Admitted(ctypes.Structure):
+    """`sm_admitted`."""
+
+    _fields_ = [("run_id", ctypes.c_uint8 * 32), ("traitors", c_uint32), ("proposer", c_uint32)]
+
+
 # A text that is read is a pointer and a length. One that is written has a count besides. An answer is one pointer.
 _READ: List[Any] = [c_char_p, c_size_t]
 _WRITTEN: List[Any] = [c_char_p, c_size_t, POINTER(c_size_t)]
@@ -132,6 +138,7 @@ _ENDS: Dict[str, Dict[str, List[Any]]] = {
         + _FAULT
         + [POINTER(Pair)],
         "sm_node_shown": [c_char_p] + _READ + [POINTER(c_uint32)] + _FAULT,
+        "sm_node_admit": [c_char_p, c_uint32] + _READ + [POINTER(Admitted)] + _FAULT,
         "sm_node_header_numbers": _READ + [POINTER(Numbers)] + _FAULT,
         "sm_node_rounds": _READ + [POINTER(c_uint32)] + _FAULT,
         "sm_node_neighbours": _READ + [c_uint32, POINTER(c_uint32)] + _FAULT,

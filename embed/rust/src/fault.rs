@@ -15,7 +15,8 @@ pub enum Fault {
     OtherSystem,
     /// The node (general) of [`accuse`](crate::accuse) or [`receipt`](crate::receipt) is none of the run's.
     Nobody,
-    /// What was handed to a call on nodes, headers or bundles, or to [`shown`](crate::shown), has a fault.
+    /// What was handed to a call on nodes, headers or bundles, to [`shown`](crate::shown) or to
+    /// [`admitted_run`](crate::admitted_run), has a fault.
     Node(NodeFault),
     /// Two nodes of a header have the same root, the lesser one first. No lesser pair has.
     EqualRoots(u32, u32),
@@ -29,8 +30,8 @@ pub enum Fault {
     Memory,
 }
 
-/// The faults of `sm_node.h`. `docs/FORMATS.md` says what H1 to H11, F1 to F8, B1 to B9 and Q1 to Q5 are, and so
-/// does [`explain`](crate::explain) of such a name.
+/// The faults of `sm_node.h`. `docs/FORMATS.md` says what H1 to H11, F1 to F8, B1 to B9, Q1 to Q5 and A1 to
+/// A8 are, and so does [`explain`](crate::explain) of such a name.
 #[allow(missing_docs)]
 #[derive(Debug, Clone, Copy, PartialEq, Eq, Hash)]
 pub enum NodeFault {
@@ -85,12 +86,21 @@ pub enum NodeFault {
     Q3,
     Q4,
     Q5,
+    A1,
+    A2,
+    /// The system of the admission breaks a rule, other than one of its header.
+    A3,
+    A4,
+    A5,
+    A6,
+    A7,
+    A8,
 }
 
 use NodeFault::*;
 
 /// The faults of each row of numbers, with the first number.
-const NUMBERED: [(u32, &[NodeFault]); 7] = [
+const NUMBERED: [(u32, &[NodeFault]); 8] = [
     (1, &[H1, H2, H3, H4, H5, H6, H7, H8, H9, H10, H11, LeftOver, NoGeneral, OtherRoot, EqualRoots]),
     (16, &[OtherVersion, UsedSlot]),
     (21, &[F1, F2, F3, F4, F5, F6, F7, F8]),
@@ -98,6 +108,7 @@ const NUMBERED: [(u32, &[NodeFault]); 7] = [
     (41, &[B1, B2, B3, B4, B5, B6, B7, B8, B9]),
     (50, &[LongLog]),
     (61, &[Q1, Q2, Q3, Q4, Q5]),
+    (71, &[A1, A2, A3, A4, A5, A6, A7, A8]),
 ];
 
 impl NodeFault {
@@ -187,11 +198,13 @@ mod tests {
             (50, LongLog),
             (61, Q1),
             (65, Q5),
+            (71, A1),
+            (78, A8),
         ];
         for (number, fault) in told {
             assert_eq!(NodeFault::of_number(number), Some(fault));
         }
-        for number in [0, 18, 20, 29, 33, 40, 51, 60, 66, u32::MAX] {
+        for number in [0, 18, 20, 29, 33, 40, 51, 60, 66, 70, 79, u32::MAX] {
             assert_eq!(NodeFault::of_number(number), None);
         }
     }

@@ -99,6 +99,14 @@ pub struct SmFrameHead {
     pub parcel_count: u32,
 }
 
+/// `sm_admitted`.
+#[repr(C)]
+pub struct SmAdmitted {
+    pub run_id: [u8; 32],
+    pub traitors: u32,
+    pub proposer: u32,
+}
+
 /// `sm_log`.
 #[repr(C)]
 pub struct SmLog {
@@ -204,6 +212,14 @@ extern "C" {
         receipts: *const u8,
         receipt_bytes: usize,
         order: *mut u32,
+        fault: *mut u32,
+    ) -> u32;
+    pub fn sm_node_admit(
+        system: *const u8,
+        run: u32,
+        admission: *const u8,
+        admission_bytes: usize,
+        admitted: *mut SmAdmitted,
         fault: *mut u32,
     ) -> u32;
     pub fn sm_node_order(node: *mut SmNode, order: *mut u32) -> u32;
