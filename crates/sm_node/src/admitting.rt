@@ -88,6 +88,7 @@ fn run_of(alloc: Global, admission: &Admission, run: u32) -> Result<SmAdmitted, 
     ensures { IfOk result (λ told. told ≡ told_of admission.now run) }
 {
     let header = header_of(alloc, admission, run)?;
+    // A network has two generals at least, so general 0 is one.
     let _generals = admission.system().header().net().generals();
     let proposer = admission.system().node_of(run, GeneralNo::at(0));
     Ok(SmAdmitted {

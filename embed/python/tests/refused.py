@@ -58,6 +58,9 @@ class Refused(unittest.TestCase):
         self.assertEqual(logs, wanted)
         self.assertEqual([until_done(node.receipt) for node in nodes], receipts)
         self.assertEqual(until_done(vamuretu.shown, header.run_id, b"".join(receipts)), ALL.order)
+        own = System(1)
+        words = own.id, 1, own.admission
+        self.assertEqual(until_done(vamuretu.admitted_run, *words), vamuretu.admitted_run(*words))
         words = header, [], logs.items()
         self.assertEqual(until_done(vamuretu.bundle, *words), vamuretu.bundle(*words))
         for node in nodes:

@@ -30,14 +30,14 @@ class System:
         self.number = RUNS[version]
         self.admission = vamuretu.admission(self.number, self.bytes, enumerate(self.roots))
 
-    def run(self, number):
-        """The bundle of a run, whose commander proposes value 1. Its seeds come from states of the secrets."""
+    def run(self, number, value=1):
+        """The bundle of a run, whose commander proposes this value. Its seeds come from states of the secrets."""
         admitted = vamuretu.admit(number, self.admission, system=self.id)
         header, nodes = admitted.header, []
         for general, node in enumerate(admitted.run.nodes):
             state = SetState.first(SECRETS[node], self.id).advance_to(number // (4 if self.version == 2 else 1))
             with Keys(state.seed(self.id), self.version) as keys:
-                nodes.append(Node(header, general, keys, 1 if general == 0 else None))
+                nodes.append(Node(header, general, keys, value if general == 0 else None))
         for _ in range(header.rounds):
             for node in nodes:
                 node.begin_round()
