@@ -47,7 +47,7 @@ fn receipts(header: &Header, run: &SystemRun, order: u8) -> Vec<Vec<u8>> {
 fn runs_that_are_admitted() {
     let (id, shown) = made();
     for run in 4..8 {
-        let run_id = admit(run, &shown, None).expect("a header").header.run_id();
+        let run_id = admit(run, &shown, None).expect("a header").header.run_id().expect("an id");
         assert_eq!(admitted_run(&id, run, &shown), Ok(AdmittedRun { run_id, traitors: 1, proposer: run % 3 }));
     }
     for run in [0, 3, 8, u32::MAX] {

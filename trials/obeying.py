@@ -1,0 +1,483 @@
+"""Devices that obey the decisions of a system (examples/device, embed/rust/examples/obey.rs): a valve opens if and only if more than m nodes show the value that opens it, in a new run.
+
+The archives are those of embed.py and nodes.py; without them, or without a compiler, nothing is tried, and a line says so. Without
+cargo the device in Rust is left out, and without openssl connections over TLS. The doors of nodes are played here. Decisions are
+made by the libraries: a system of three nodes, of which one may be faulty, decides each run both ways. A door lies in each way that
+there is: with receipts of one node alone, of another run, of another system, of two values, with decisions that are old, come
+again, are cut, or never end, or it says nothing. While there is no other door that says anything, no valve opens. As soon as
+another door is good each valve opens, and it closes when no decision comes any more, when another value is shown, and at the end.
+What the device in C is built of asks for no memory.
+"""
+import contextlib
+import hashlib
+import itertools
+import os
+import pickle
+import shutil
+import signal
+import socket
+import ssl
+import struct
+import subprocess
+import sys
+import tempfile
+import threading
+import time
+
+from bindings import ARCHIVES, build_libraries
+from embed import EMBED, SANITIZERS, TOP, IsNotBuilt, do, source
+from processes import OF_C, POOL
+from programs import run, side_by_side
+from receipts import ASKS
+
+PYTHON, RUST = os.path.join(EMBED, "python"), os.path.join(EMBED, "rust")
+DEVICE = os.path.join(TOP, "examples", "device")
+# The system: its nodes and levels, and what its values (orders) mean. The runs that are decided, each both ways.
+NODES, LEVELS, OPENS, CLOSES = 3, 5, 2, 1
+RUNS = range(2, 128)
+# When a scene begins this run has just begun. A period in milliseconds, and how many periods a liar is alone.
+FIRST, PERIOD, ALONE = 12, 300, 10
+# What a valve may take to open, and to close behind its three periods, on a busy machine, in seconds.
+PATIENCE, SLACK = 20, 5
+HEAP = "-DSM_POOL_BYTES=1048576"
+
+
+# ---- decisions
+
+
+class Maker:
+    """A system, and the decisions of its runs, by the package for Python. Its libraries are loaded by a process of their own."""
+
+    def __init__(self, vamuretu, context):
+        self.calls = vamuretu
+        self.secrets = [bytes([7 + node]) * 32 for node in range(NODES)]
+        self.roots = [vamuretu.enroll(secret, LEVELS, 2) for secret in self.secrets]
+        lines = [f"generals {NODES}", *(f"edge {a} {b}" for a, b in itertools.combinations(range(NODES), 2))]
+        lines += ["traitors 1", "diameter 1", "orders 3", "choice 0", *(f"root {vamuretu.identity(it)}" for it in self.roots), "end"]
+        text = "".join(f"{line}\n" for line in lines).encode()
+        self.system = vamuretu.system(text, LEVELS, 2, context, turns=True)
+        self.id = vamuretu.system_id(self.system)
+
+    def admission(self, number):
+        return self.calls.admission(number, self.system, enumerate(self.roots))
+
+    def receipts(self, number, value):
+        """The receipts of all nodes of a run that decide a value."""
+        admitted = self.calls.admit(number, self.admission(number), system=self.id)
+        seeds = [self.calls.SetState.first(self.secrets[it], self.id).advance_to(number // 4).seed(self.id) for it in admitted.run.nodes]
+        nodes = [self.calls.Node(admitted.header, at, seed, None if at else value) for at, seed in enumerate(seeds)]
+        for _ in range(admitted.header.rounds):
+            for node in nodes:
+                node.begin_round()
+            for one, other in itertools.permutations(nodes, 2):
+                other.hear(one.general, one.send(other.general))
+            for node in nodes:
+                node.end_round()
+        with contextlib.ExitStack() as all_nodes:
+            for node in nodes:
+                all_nodes.enter_context(node).finish()
+            return [node.receipt() for node in nodes]
+
+    def decisions(self, numbers):
+        """Of each run its admission, and the receipts of each value."""
+        return dict(side_by_side(lambda it: (it, (self.admission(it), {v: self.receipts(it, v) for v in (OPENS, CLOSES)})), numbers))
+
+
+def make_decisions(path):
+    """Writes the id of a system with the decisions of its runs, and an admission of each set of another system."""
+    import vamuretu
+
+    own, other = Maker(vamuretu, bytes(32)), Maker(vamuretu, bytes(31) + b"\1")
+    with open(path, "wb") as file:
+        pickle.dump((own.id, own.decisions(RUNS), {number: other.admission(number) for number in RUNS}), file)
+
+
+# ---- the doors of nodes
+
+
+def message(kind, body=b""):
+    return struct.pack(">I", 1 + len(body)) + kind + body
+
+
+class Scene:
+    """What the doors of one system say to one device: the times of the runs, their decisions, and since when a door is good."""
+
+    def __init__(self, made):
+        self.id, self.decided, self.others = made
+        self.start = time.time_ns() // 1_000_000 - FIRST * PERIOD
+        self.is_good, self.is_over, self.value = threading.Event(), threading.Event(), OPENS
+
+    def now(self):
+        """The number of the run that began last."""
+        return (time.time_ns() // 1_000_000 - self.start) // PERIOD
+
+    def runs(self):
+        """The number of each run as it begins, from that which began last on."""
+        last = -1
+        while last < RUNS[-1] and not self.is_over.wait(0.005):
+            if self.now() != last:
+                last = self.now()
+                yield last
+
+    def decision(self, run, receipts=None, admission=None):
+        """The message of a decision: that of two nodes on the value, if nothing else is said."""
+        shown, by_value = self.decided[run]
+        receipts = by_value[self.value][:2] if receipts is None else receipts
+        admission = shown if admission is None else admission
+        return message(b"D", struct.pack(">IBBI", run, run % NODES, self.value, len(admission)) + admission + b"".join(receipts))
+
+    def opening(self, run):
+        return self.decided[run][1][OPENS]
+
+
+def of_one(scene):
+    yield from (scene.decision(run, scene.opening(run)[:1]) for run in scene.runs())
+
+
+def of_one_twice(scene):
+    yield from (scene.decision(run, scene.opening(run)[:1] * 2) for run in scene.runs())
+
+
+def of_another_run(scene):
+    yield from (scene.decision(run, scene.opening(run - 1)) for run in scene.runs())
+
+
+def of_a_run_under_another_number(scene):
+    for run in scene.runs():
+        old = scene.decision(run - 8)
+        yield old[:5] + struct.pack(">I", run) + old[9:]
+
+
+def of_another_system(scene):
+    yield from (scene.decision(run, scene.opening(run), scene.others[run]) for run in scene.runs())
+
+
+def of_two_values(scene):
+    yield from (scene.decision(run, scene.opening(run) + scene.decided[run][1][CLOSES]) for run in scene.runs())
+
+
+def of_old_runs(scene):
+    yield from (scene.decision(run - 5, scene.opening(run - 5)) for run in scene.runs())
+
+
+def of_bent_receipts(scene):
+    for run in scene.runs():
+        one, other = scene.opening(run)[:2]
+        yield scene.decision(run, [one, other[:-1] + bytes([other[-1] ^ 1])])
+
+
+def cut(scene):
+    for run in scene.runs():
+        whole = scene.decision(run)[4:]
+        yield struct.pack(">I", len(whole) * (run % 3) // 3 + 1) + whole[: len(whole) * (run % 3) // 3 + 1]
+
+
+def without_an_end(scene):
+    for run in scene.runs():
+        for byte in scene.decision(run):
+            yield bytes([byte])
+            if scene.is_over.wait(PERIOD / 2000):
+                return
+
+
+def too_long(scene):
+    yield from (b"\xff" * 4 + scene.decision(run) for run in scene.runs())
+
+
+def of_no_bytes(scene):
+    yield from (bytes(4) + scene.decision(run) for run in scene.runs())
+
+
+def silent(scene):
+    scene.is_over.wait()
+    yield from ()
+
+
+def only_there(scene):
+    yield from (message(b"P") + message(b"M", struct.pack(">II", run, run)) for run in scene.runs())
+
+
+def gone(_):
+    yield from ()
+
+
+def good(scene):
+    """A door that hands out each decision as its run begins, once it is good, and until then says nothing."""
+    while not scene.is_good.wait(0.01):
+        if scene.is_over.is_set():
+            return
+    yield from (scene.decision(run) for run in scene.runs())
+
+
+LIARS = [of_one, of_one_twice, of_another_run, of_a_run_under_another_number, of_another_system, of_two_values, of_old_runs, of_bent_receipts,
+         cut, without_an_end, too_long, of_no_bytes, silent, only_there, gone]
+
+
+class Door:
+    """A door that says what a script gives to each device that asks."""
+
+    def __init__(self, scene, script, context=None):
+        self.scene, self.script, self.context, self.asked = scene, script, context, []
+        self.listener = socket.create_server(("127.0.0.1", 0))
+        self.address = "%s:%d" % self.listener.getsockname()
+        threading.Thread(target=self.take, daemon=True).start()
+
+    def take(self):
+        """Takes each connection, until the door is closed."""
+        with contextlib.suppress(OSError):
+            while True:
+                stream = self.listener.accept()[0]
+                threading.Thread(target=self.tell, args=[stream], daemon=True).start()
+
+    def tell(self, stream):
+        with contextlib.suppress(OSError), stream:
+            stream = self.context.wrap_socket(stream, server_side=True) if self.context else stream
+            with stream:
+                self.asked.append(stream.recv(41, 0 if self.context else socket.MSG_WAITALL))
+                for said in self.script(self.scene):
+                    stream.sendall(said)
+
+    def close(self):
+        with contextlib.suppress(OSError):
+            self.listener.shutdown(socket.SHUT_RDWR)
+        self.listener.close()
+
+
+# ---- devices
+
+
+class Device:
+    """A device as a process, with the file of its valve."""
+
+    def __init__(self, command, environ, scene, doors, folder, more=()):
+        self.valve = os.path.join(folder, "valve")
+        words = [self.valve, scene.id, str(scene.start), str(PERIOD), str(OPENS), *(it.address for it in doors), *more]
+        self.told = open(os.path.join(folder, "told"), "w+b")
+        self.process = subprocess.Popen([*command, *words], stderr=self.told, env={**os.environ, **environ})
+
+    def word(self):
+        with contextlib.suppress(OSError), open(self.valve, "rb") as file:
+            return file.read().decode().strip()
+        return ""
+
+    def is_open_within(self, seconds, wanted=True):
+        """Whether the valve is open, or shut, within a time."""
+        until = time.monotonic() + seconds
+        while time.monotonic() < until:
+            if (self.word() == "open") == wanted:
+                return True
+            time.sleep(0.01)
+        return False
+
+    def end(self):
+        """Ends the process by the signal of its unit. Its status, and what it said."""
+        self.process.send_signal(signal.SIGTERM)
+        try:
+            status = self.process.wait(30)
+        finally:
+            self.process.kill()
+        self.told.seek(0)
+        return status, self.told.read().decode()[-1500:]
+
+
+@contextlib.contextmanager
+def going(kind, scene, doors, more=()):
+    """A device and the doors that it asks, until the block ends."""
+    with tempfile.TemporaryDirectory() as folder:
+        device = Device(*kind, scene, doors, folder, more)
+        try:
+            yield device
+        finally:
+            scene.is_over.set()
+            device.process.kill()
+            device.process.wait()
+            for door in doors:
+                door.close()
+
+
+def liar_wrong(kind, made, script):
+    """None where a device opens by no liar, then by a good door, and closes when no door says anything."""
+    scene = Scene(made)
+    doors = [Door(scene, script), Door(scene, good)]
+    with going(kind, scene, doors) as device:
+        if device.is_open_within(ALONE * PERIOD / 1000):
+            return "it is open by a liar"
+        if device.word() != "closed" or not doors[0].asked:
+            return f"the valve has {device.word()!r}, and the liar was asked {len(doors[0].asked)} times"
+        if set(doors[0].asked) != {message(b"W", bytes.fromhex(scene.id) + b"\xff" * 4)}:
+            return f"it asks {doors[0].asked}"
+        scene.is_good.set()
+        if not device.is_open_within(PATIENCE):
+            return f"it does not open by a good door: {device.end()}"
+        scene.is_over.set()
+        if not device.is_open_within(3 * PERIOD / 1000 + SLACK, False):
+            return "it does not close without decisions"
+    return None
+
+
+def again_wrong(kind, made):
+    """None where a decision that comes again keeps no valve open."""
+    scene = Scene(made)
+
+    def again(scene):
+        run = scene.now()
+        yield from (scene.decision(run) for _ in scene.runs())
+
+    doors = [Door(scene, again)]
+    with going(kind, scene, doors) as device:
+        if not device.is_open_within(PATIENCE):
+            return "it does not open"
+        doors[0].script = lambda scene: (scene.decision(FIRST) for _ in scene.runs())
+        if not device.is_open_within(3 * PERIOD / 1000 + SLACK, False):
+            return "it stays open"
+    return None
+
+
+def values_wrong(kind, made, ends=True, more=(), context=None):
+    """None where one good door opens a valve and shuts it by another value over one connection, and the end shuts it."""
+    scene = Scene(made)
+    scene.is_good.set()
+    doors = [Door(scene, good, context)]
+    with going(kind, scene, doors, more) as device:
+        for value in (OPENS, CLOSES, OPENS):
+            scene.value = value
+            if not device.is_open_within(PATIENCE, value == OPENS):
+                return f"by value {value} the valve is not set: {device.end()}"
+        status, said = device.end()
+        if ends and (status != 0 or device.word() != "closed"):
+            return f"it ends with status {status} and {device.word()!r}: {said}"
+    return None
+
+
+# ---- building
+
+
+def build_valve(folder):
+    """The devices in C by name: as it is, and under the sanitizers."""
+    kinds, own = {}, os.path.join(DEVICE, "valve.c")
+    for name, flags in (("C", []), ("C, sanitized", SANITIZERS)):
+        made = os.path.join(folder, f"{name}.built")
+        do([*OF_C, *flags, HEAP, own, POOL, ARCHIVES["sm_node"], "-o", made])
+        kinds[name] = [made], {}
+    return kinds
+
+
+def asks_wrong(folder):
+    """None where the device in C asks for no memory."""
+    objects = [os.path.join(folder, f"{name}.o") for name in ("valve", "pool")]
+    for made, own in zip(objects, (os.path.join(DEVICE, "valve.c"), POOL)):
+        do([*OF_C, HEAP, "-c", own, "-o", made])
+    wanted = {line.split()[-1] for line in do(["nm", "-u", *objects]).splitlines() if line.strip().startswith("U ")}
+    return f"it asks for {wanted & ASKS}" if wanted & ASKS else None
+
+
+def words_wrong(valve):
+    """None where wrong words end with status 2, and a valve that can't be set with status 5."""
+    right = ["/tmp", "0" * 64, "0", "100", "2", "127.0.0.1:1"]
+    changed = [(1, "0" * 63), (1, "A" * 64), (2, "-1"), (2, ""), (3, "0"), (3, "1x"), (4, "15"), (5, "127.0.0.1"), (5, "localhost:1")]
+    changed += [(5, "[::1:1"), (5, "127.0.0.1:0"), (5, "127.0.0.1:65536"), (5, ":1")]
+    cases = [(2, []), (2, right[:5]), (2, right + ["127.0.0.1:1"] * 16), (5, right), (5, right + ["[::1]:1"])]
+    cases += [(2, right[:at] + [word] + right[at + 1 :]) for at, word in changed]
+    for status, words in cases:
+        end = run(valve, words)
+        if end.status != status or not end.said:
+            return f"{words}: {end}"
+    return None
+
+
+def build_rust(folder, libraries):
+    """The device in Rust."""
+    target = os.path.join(folder, "target")
+    given = {**os.environ, "VAMURETU_LIBRARIES": libraries, "CARGO_TARGET_DIR": target}
+    do(["cargo", "build", "--offline", "--locked", "--quiet", "--example", "obey"], cwd=RUST, env=given)
+    return [os.path.join(target, "debug", "examples", "obey")], {}
+
+
+def by_tls(folder):
+    """The key of an end with its pin, and what takes connections with it."""
+    key, certificate, both = (os.path.join(folder, name) for name in ("key", "certificate", "both"))
+    do(["openssl", "req", "-x509", "-newkey", "ed25519", "-nodes", "-subj", "/CN=vamuretu", "-keyout", key, "-out", certificate])
+    with open(both, "w", encoding="ascii") as file:
+        file.writelines(open(it, encoding="ascii").read() for it in (key, certificate))
+    context = ssl.SSLContext(ssl.PROTOCOL_TLS_SERVER)
+    context.load_cert_chain(both)
+    pin = hashlib.sha256(ssl.PEM_cert_to_DER_cert(open(certificate, encoding="ascii").read())).hexdigest()
+    return both, pin, context
+
+
+def tls_wrong(kind, made, folder):
+    """None where the device in Python obeys a node whose key has a pin that it knows, and no other."""
+    key, pin, context = by_tls(folder)
+    wrong = values_wrong(kind, made, more=["--key", key, "--pins", "0" * 64, pin], context=context)
+    if wrong:
+        return wrong
+    scene = Scene(made)
+    scene.is_good.set()
+    with going(kind, scene, [Door(scene, good, context)], ["--key", key, "--pins", "0" * 64]) as device:
+        is_open = device.is_open_within(ALONE * PERIOD / 1000)
+        return f"it obeys a key that it does not know: {device.end()}" if is_open or pin not in device.end()[1] else None
+
+
+def try_device(tally, name, kind, made):
+    """All scenes of one device, side by side."""
+    told = side_by_side_all([lambda script=script: liar_wrong(kind, made, script) for script in LIARS]
+                            + [lambda: again_wrong(kind, made), lambda: values_wrong(kind, made, name != "Rust")])
+    for scene, wrong in zip([*(it.__name__ for it in LIARS), "again", "values"], told):
+        tally.hold(f"{name}, {scene.replace('_', ' ')}", wrong)
+    tally.count(len(told))
+
+
+def side_by_side_all(calls):
+    """What the calls answer, each in a thread of its own."""
+    answers = [None] * len(calls)
+
+    def answer(at):
+        answers[at] = calls[at]()
+
+    threads = [threading.Thread(target=answer, args=[at]) for at in range(len(calls))]
+    for it in threads:
+        it.start()
+    for it in threads:
+        it.join()
+    return answers
+
+
+def try_built(tally, folder):
+    """All trials over the archives."""
+    libraries, made = os.path.join(folder, "libraries"), os.path.join(folder, "made")
+    build_libraries(libraries, source("heap.c"))
+    environ = {"VAMURETU_LIBRARIES": libraries, "PYTHONPATH": PYTHON}
+    do([sys.executable, "-B", os.path.abspath(__file__), made], env={**os.environ, **environ})
+    with open(made, "rb") as file:
+        made = pickle.load(file)
+    kinds = build_valve(folder)
+    tally.hold("C, memory", asks_wrong(folder))
+    tally.hold("C, words", words_wrong(kinds["C"][0][0]))
+    kinds["Python"] = [sys.executable, "-B", os.path.join(DEVICE, "obey.py")], environ
+    if shutil.which("cargo") and shutil.which("ar"):
+        kinds["Rust"] = build_rust(folder, libraries)
+    else:
+        tally.note("left out: the device in Rust, as cargo or ar is not there")
+    for name, kind in kinds.items():
+        try_device(tally, name, kind, made)
+    if shutil.which("openssl"):
+        tally.hold("Python, TLS", tls_wrong(kinds["Python"], made, folder))
+    else:
+        tally.note("left out: connections over TLS, as openssl is not there")
+
+
+def trials(_, tally):
+    lacks = [os.path.relpath(it, TOP) for it in ARCHIVES.values() if not os.path.exists(it)]
+    lacks += [] if shutil.which("cc") else ["cc"]
+    if lacks:
+        tally.note(f"left out: {' and '.join(lacks)} is not there")
+        return
+    with tempfile.TemporaryDirectory() as folder:
+        try:
+            try_built(tally, folder)
+        except IsNotBuilt as told:
+            tally.fail(str(told))
+
+
+if __name__ == "__main__":
+    make_decisions(sys.argv[1])
