@@ -6,7 +6,8 @@ a RECV say which bytes it has. So each node is driven alone, with the frames tha
 ones, and those with the most that nodes send, hear and hand on: 16 rounds, 15 neighbours, frames of 15 chains, chains of 15
 signers that count and of 16 that can't, and 64 logs. Two nodes hand frames to each other. Roots of seeds are those of the
 reference. What a node refuses is told by its number, the first of several. The calls are made by ctypes, in a thread with
-little stack. Which run of a system is next is asked at drawn times beside the reference.
+little stack. Which run of a system is next is asked at drawn times beside the reference, and which run an admission admits of drawn
+and bent ones.
 """
 import collections
 import ctypes
@@ -16,6 +17,8 @@ import random
 import struct
 import tempfile
 
+from bends import bend_bytes
+from draws import Draws
 from layout import MARK, Bundle
 from nodes import BAD, DONE, NO, NO_ORDER, SHORT, Library, with_little_stack
 from processes import seed_of, try_with_library
@@ -24,17 +27,23 @@ from reference import root_digits
 from scenarios import chain, everybody, scenario
 from model.chain import Chain
 from model.clock import MOST_RUNS, TIMES, Timetable
+from model.faults import Fault
+from model.identity import top_above
 from model.keys import height_of, signature_length
 from model.log import Recv, Send, Sign, read_log
+from model.network import Header, make_network
 from model.receipt import receipt_of_log
+from model.system import Admission, System, read_admission
 
-# The numbers of faults in sm_node.h: there is no node, and those of frames and of bundles behind F0 and B0.
-NO_GENERAL, OTHER_ROOT, F0, B0 = 13, 14, 20, 40
+# The numbers of faults in sm_node.h: there is no node, and those of frames, bundles and admissions behind F0, B0 and A0.
+NO_GENERAL, OTHER_ROOT, F0, B0, A0 = 13, 14, 20, 40, 70
 # The numbers of calls that were not made, and of a record of another system. In place of a run there is none.
 MISUSE, OTHER = 2, 7
 NO_RUN = 2**32 - 1
 # How many times of a clock are drawn.
 DRAWN = 20_000
+# How many systems are drawn, and how often the admission of each is bent.
+SYSTEMS, BENT = 150, 40
 # The seeds of two nodes that are of no scenario.
 SEEDS = bytes([1]) * 32, bytes([2]) * 32
 # Seeds that begin with 0, and others; the words by which the program makes their roots, by the version.
@@ -535,6 +544,69 @@ def try_clock(_, library):
     same("the kinds of ends that were seen", sorted(ends), [(none, first) for none in (False, True) for first in (False, True)])
 
 
+def drawn_admission(draws):
+    """An admission of a system. Nobody knows keys of its roots, so the identities are made of the openings."""
+    some = lambda: hashlib.sha256(bytes([draws.below(256) for _ in range(8)])).digest()
+    nodes, levels, version = 2 + draws.below(6), draws.below(5), 1 + draws.below(2)
+    number = draws.below(2**levels)
+    roots = tuple(some() for _ in range(nodes))
+    openings = tuple(tuple(some() for _ in range(levels)) for _ in range(nodes))
+    tops = tuple(top_above(root, number, opening) for root, opening in zip(roots, openings))
+    numbers = (nodes, draws.below(4), 1 + draws.below(4), 2 + draws.below(14), draws.below(2))
+    edges = [it for it in everybody(nodes) if draws.below(3)]
+    header = Header(version, 0, make_network(numbers, edges, True), tops)
+    return Admission(System(header, draws.below(2), levels, some()), number, roots, openings)
+
+
+def number_of_fault(words):
+    """The number in sm_node.h of a fault of an admission: that of the header in its system, or that of the admission."""
+    parts = words.split(" ")
+    return int(parts[-1][1:]) if parts[-1][0] == "H" else A0 + int(parts[0][1:])
+
+
+def wanted_of(system, run, data):
+    """What the reference has: the status, the fault, and the run id, m and the node that proposes."""
+    try:
+        admission = read_admission(data)
+    except Fault as broken:
+        return BAD, number_of_fault(broken.words), None
+    if not admission.holds():
+        return BAD, A0 + 7, None
+    if run not in admission.runs():
+        return BAD, A0 + 8, None
+    if admission.system.id != system:
+        return OTHER, 0, None
+    run_id = hashlib.sha256(b"\x31" + admission.header_of(run).spell()).digest()
+    return DONE, 0, (run_id, admission.system.header.network.traitors, admission.system.node_of(run, 0))
+
+
+def admitted(library, system, run, data):
+    """What the library tells. What was there stays unless it is done."""
+    room, told = ctypes.create_string_buffer(b"\7" * 40, 40), ctypes.c_uint32(77)
+    status = library.call("sm_node_admit", system, ctypes.c_uint32(run), data, ctypes.c_size_t(len(data)), room, ctypes.byref(told))
+    if status != DONE:
+        same("what was there", room.raw, b"\7" * 40)
+        return status, told.value, None
+    return status, told.value, (room.raw[:32], *struct.unpack("=2I", room.raw[32:]))
+
+
+def try_admissions(_, library):
+    """The runs that drawn admissions admit, and bent ones, are those of the reference, and so are the faults."""
+    draws, seen = Draws("admissions"), collections.Counter()
+    for _ in range(SYSTEMS):
+        admission = drawn_admission(draws)
+        data, system, runs = admission.spell(), admission.system.id, admission.runs()
+        cases = [(system, run, data) for run in (*runs, runs[0] + 1, max(0, runs[0] - 1), runs[-1] + 1, 2**32 - 1)]
+        cases += [(bytes([system[0] ^ 1]) + system[1:], run, data) for run in (runs[-1], runs[-1] + 1)]
+        cases += [(system, runs[0], bend_bytes(draws, data)) for _ in range(BENT)] + [(system, 0, data + b"x"), (system, 0, b"")]
+        for case in cases:
+            wanted = wanted_of(*case)
+            same(f"run {case[1]} of {case[2][:500].hex()}", admitted(library, *case), wanted)
+            seen[wanted[:2]] += 1
+    lacking = {(DONE, 0), (OTHER, 0), *((BAD, A0 + it) for it in range(1, 9)), *((BAD, it) for it in (1, 2))} - set(seen)
+    same("the kinds of ends that were not seen", lacking, set())
+
+
 TRIALS = {
     "two in slot 2": try_pair,
     "keys for all slots": try_slots,
@@ -549,6 +621,7 @@ TRIALS = {
     "bundles of many logs": try_bundles,
     "states of secrets": try_states,
     "the next run by drawn clocks": try_clock,
+    "runs that admissions admit": try_admissions,
 }
 
 

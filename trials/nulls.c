@@ -138,6 +138,9 @@ static int nodes(void) {
     WANT(sm_node_receipt(&node, NULL, 1, &count) == SM_MISUSE && count == 0);
     WANT(sm_node_shown(id, NULL, 0, &number, &fault) == SM_FAULT && fault == SM_Q1 && number == SM_NO_ORDER);
     WANT(sm_node_shown(id, NULL, 1, &number, &fault) == SM_MISUSE && fault == 0 && number == SM_NO_ORDER);
+    sm_admitted admitted = {{77}, 77, 77};
+    WANT(sm_node_admit(id, 1, NULL, 0, &admitted, &fault) == SM_FAULT && fault == SM_A1 && admitted.run_id[0] == 77);
+    WANT(sm_node_admit(id, 1, NULL, 1, &admitted, &fault) == SM_MISUSE && fault == 0 && admitted.traitors == 77);
     WANT(sm_node_round(&node, &number) == SM_MISUSE && number == 0);
     WANT(sm_node_awaits(&node, 1, &number) == SM_MISUSE && number == 0);
     WANT(sm_node_lacks(&node, 1, &number) == SM_MISUSE && number == 0);

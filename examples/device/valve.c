@@ -1,6 +1,6 @@
 /* A device: it opens a valve if and only if more than m nodes of a system show the value (order) that opens it, in a
-   new run. It knows the id of the system and its timetable alone. It asks one node after another for decisions, by the
-   messages that docs/NODES.md has under "Devices", and believes none of them: receipts are what counts.
+   new run. It knows the id of the system and its timetable alone. It asks the doors of nodes for decisions, one after
+   another, and believes none of them: receipts are what counts. docs/EMBED.md says when a decision is obeyed.
 
        cc -std=c11 -DSM_POOL_BYTES=1048576 examples/device/valve.c embed/pool.c out/libsm_node.a -I embed -o valve
        valve FILE SYSTEM START PERIOD ORDER ADDRESS..
