@@ -56,8 +56,8 @@ abbrev pub LacksAdmission : ℕ → List ℕ → ReadError AdmitFault → Type 0
 LacksAdmission run bytes errors.Memory = Unit {0}
 LacksAdmission run bytes (errors.Fault fault) = IsAdmitFault run bytes fault
 
--- what is told of a run: by the header that the admission has for it the run id and the number of traitors that
--- it is planned for, and the node that is general 0, the commander
+-- what is told of a run: by the header that the admission has for it the run id and the number of traitors
+-- that it is planned for, and the node that is general 0, the commander
 abbrev pub told_of : SetAdmission → ℕ → SmAdmitted
 told_of a run = record {
   run_id = run_id_of (header_of_run a run);
@@ -65,15 +65,16 @@ told_of a run = record {
   proposer = node_of a.system run 0;
 }
 
--- The bytes are an admission that admits its header of the run in the system with this id, and this is told of
--- the run.
+-- The bytes are an admission that admits its header of the run in the system with this id, and this is told
+-- of the run.
 pub record AdmitsRun (system : List ℕ) (run : ℕ) (bytes : List ℕ) (told : SmAdmitted) : Type 0 where
   pub admission : SetAdmission
   pub read : whole_admission bytes ≡ Ok admission
   pub admits : Admits system run (header_of_run admission run) admission
   pub told_is : told ≡ told_of admission run
 
--- the bytes are an admission that holds of the run's set, and it is of another system than the one with this id
+-- the bytes are an admission that holds of the run's set, and it is of another system than the one with this
+-- id
 pub record IsOfOtherSystem (system : List ℕ) (run : ℕ) (bytes : List ℕ) : Type 0 where
   pub admission : SetAdmission
   pub for_run : IsFor run bytes admission

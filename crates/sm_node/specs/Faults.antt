@@ -110,8 +110,8 @@ admission_number admissions.SetRange = 74
 admission_number admissions.OtherLevels = 75
 admission_number admissions.LeftOver = 76
 
--- the number of a fault of an admission for a run: that of the admission's bytes, 77 if it does not hold, or 78
--- if the run is of another set
+-- the number of a fault of an admission for a run: that of the admission's bytes, 77 if it does not hold, or
+-- 78 if the run is of another set
 abbrev pub admit_number : AdmitFault → ℕ
 admit_number (admitting.Bytes f) = admission_number f
 admit_number admitting.Fails = 77
