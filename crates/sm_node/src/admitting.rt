@@ -49,11 +49,7 @@ impl AdmitReply {
 }
 
 /// Returns the admission that the bytes are, if it holds and the run is of its set.
-fn admission_for(
-    alloc: Global,
-    run: u32,
-    bytes: &[u8],
-) -> Result<Admission, ReadError<AdmitFault>>
+fn admission_for(alloc: Global, run: u32, bytes: &[u8]) -> Result<Admission, ReadError<AdmitFault>>
     ensures admission { IfOk result (IsFor run bytes.now) }
     ensures fault { IfErr result (LacksAdmission run bytes.now) }
 {
@@ -72,11 +68,7 @@ fn admission_for(
 }
 
 /// Returns whether an admission is of the system with this id.
-fn is_of_system(
-    alloc: Global,
-    admission: &Admission,
-    system: &[u8; 32],
-) -> Result<bool, AllocError>
+fn is_of_system(alloc: Global, admission: &Admission, system: &[u8; 32]) -> Result<bool, AllocError>
     ensures { IfOk result (λ said. IsTrue said ↔ (system_id_of admission.now.system ≡ system.now)) }
 {
     let id = admission.system().id(alloc)?;
