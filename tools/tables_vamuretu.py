@@ -11,7 +11,7 @@ from rust_types import types_of
 from version import TOP, read
 
 SOURCE = os.path.join(TOP, "vamuretu", "src")
-REFERENCE, ARCHIVE = (os.path.join(TOP, "docs", name) for name in ("REFERENCE.md", "ARCHIVE.md"))
+REFERENCE = os.path.join(TOP, "docs", "REFERENCE.md")
 SCHEMA = os.path.join(TOP, "docs", "socket.schema.json")
 # The types of the two files, and whose they are.
 FILES = {"NodeFile": "a node", "WatchFile": "a watcher"}
@@ -248,8 +248,9 @@ def metrics(whose):
 
 def named_in(page, heading):
     """The names in the first column of the table behind a heading."""
-    table = page.partition(heading)[2].partition("\n\n")[0]
-    return {name for line in table.splitlines() for name in re.findall(r"`([a-z-]+)`", line.split("|")[1])}
+    section = page.partition(heading)[2].partition("\n## ")[0]
+    rows = [line for line in section.splitlines() if line.startswith("| `") and not line.startswith("| `alarm`")]
+    return {name for line in rows for name in re.findall(r"`([a-z-]+)`", line.split("|")[1])}
 
 
 def raised_in(folder, way):
@@ -259,12 +260,12 @@ def raised_in(folder, way):
 
 
 def wrong_alarms():
-    """The alarms that a page lacks, or has too many."""
-    by_page = [(REFERENCE, "| `alarm` | When | What to do |\n", "node", r'\balarm = "([a-z-]+)"')]
-    by_page += [(ARCHIVE, "| Kind | When |\n", "watch", r'(?:of_run\(|of_node\(|Some\(\(|then\(\|\| \()\s*"([a-z-]+)"')]
-    for page, heading, folder, way in by_page:
-        apart = named_in(read(page), heading) ^ raised_in(folder, way)
-        yield from (f"{os.path.relpath(page, TOP)}: the alarm {name} is there or in the code alone" for name in sorted(apart))
+    """The alarms that the page lacks, or has too many."""
+    by_heading = [("## Alarms of a node\n", "node", r'\balarm = "([a-z-]+)"')]
+    by_heading += [("## Alarms of a watcher\n", "watch", r'(?:of_run\(|of_node\(|Some\(\(|then\(\|\| \()\s*"([a-z-]+)"')]
+    for heading, folder, way in by_heading:
+        apart = named_in(read(REFERENCE), heading) ^ raised_in(folder, way)
+        yield from (f"docs/REFERENCE.md: the alarm {name} is there or in the code alone" for name in sorted(apart))
 
 
 # The tables of the page, each by the heading that it stands behind.

@@ -6,7 +6,8 @@ decision from the run on that begins after it was started again. The log of each
 program: it agrees with nobody listed but those that have no log or were late, and convicts nobody. So nobody signed a slot
 twice. The node whose clock goes back begins no run until its clock is right again. The watcher, which is killed too, gets each log that a node kept, and no
 spool has one that waits in the end. It judges each run, agrees with the verdicts by the program, convicts nobody, and
-names as gaps the runs that nobody made. The memory of the processes stays level, and a spool keeps to its bound. Files that are wrong are refused. cargo builds the program; without cargo, the crates or the
+names as gaps the runs that nobody made. The memory of the processes stays level, and a spool keeps to its bound. The schema of the local socket takes each line and each
+request. Files that are wrong are refused. cargo builds the program; without cargo, the crates or the
 libraries nothing is tried, and a line says so.
 """
 import base64
