@@ -75,6 +75,13 @@ extern "C" {
 /* In place of an order: the general has none of its own, as every general but the commander, or no order is told. */
 enum { SM_NO_ORDER = 255 };
 
+/* The rules that make one value (order) of several decided ones, for sm_node_combine.
+
+   SM_MEDIAN     the least order such that at least half of the orders are at most it
+   SM_MAJORITY   the order that more than half of the orders are, or 0 if there is none
+   SM_ALL        the order that all orders are, or 0 if they differ */
+enum sm_combination { SM_MEDIAN = 0, SM_MAJORITY = 1, SM_ALL = 2 };
+
 /* In place of the number of a run: no run was begun, or no run is told. */
 #define SM_NO_RUN UINT32_MAX
 
@@ -209,6 +216,14 @@ uint32_t sm_node_receipt(sm_node *node, uint8_t *room, size_t room_bytes, size_t
 /* Writes the order that a node which has ended decided, 0 to 14. SM_MISUSE if there is none; then *order is 0. Returns
    SM_OK or SM_MISUSE. */
 uint32_t sm_node_order(sm_node *node, uint32_t *order) SM_CALL(1, 2);
+
+/* Writes the order that a rule of enum sm_combination makes of orders that several runs decided, a byte each, in any
+   order. So n nodes vote by n runs, in each of which another one proposes. With at most m faulty nodes and more than 2m
+   orders, the median is from the least to the greatest order that correct nodes proposed, and the majority is the one
+   that all of them proposed, if there is one. By SM_ALL no order but 0 comes that is not each correct node's. No call
+   tells whether the orders are of such runs. SM_MISUSE if there is no such rule, an order is above 15, or there are no
+   orders; then *order is SM_NO_ORDER, as at SM_MEMORY. Returns SM_OK, SM_MISUSE or SM_MEMORY. */
+uint32_t sm_node_combine(uint32_t combination, const uint8_t *orders, size_t count, uint32_t *order) SM_CALL(4);
 
 /* Frees what is there, a node or keys, at any time. Then nothing is there. A ring of keys that is open is closed. */
 void sm_node_free(sm_node *node);
@@ -485,6 +500,14 @@ static inline uint32_t sm_checked_node_admit(const uint8_t system[32], uint32_t 
     if (sm_is_missing(admission, admission_bytes)) return SM_MISUSE;
     return sm_node_admit(system, run, admission ? admission : &none, admission_bytes, admitted, fault);
 }
+SM_CALL(4)
+static inline uint32_t sm_checked_node_combine(uint32_t combination, const uint8_t *orders, size_t count,
+                                               uint32_t *order) {
+    uint8_t none = 0;
+    *order = SM_NO_ORDER;
+    if (sm_is_missing(orders, count)) return SM_MISUSE;
+    return sm_node_combine(combination, orders ? orders : &none, count, order);
+}
 SM_CALL(11, 12, 13)
 static inline uint32_t sm_checked_node_bundle(const uint8_t *header, size_t header_bytes, uint32_t faulty,
                                               uint32_t parted, const sm_log *logs, size_t log_count,
@@ -560,6 +583,7 @@ static inline uint32_t sm_checked_node_frame_head(const uint8_t *frame, size_t f
 #define sm_node_receipt sm_checked_node_receipt
 #define sm_node_shown sm_checked_node_shown
 #define sm_node_admit sm_checked_node_admit
+#define sm_node_combine sm_checked_node_combine
 #define sm_node_bundle sm_checked_node_bundle
 #define sm_node_header_numbers sm_checked_node_header_numbers
 #define sm_node_rounds sm_checked_node_rounds

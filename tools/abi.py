@@ -20,7 +20,7 @@ EMBED = os.path.join(TOP, "embed")
 sys.path[:0] = [EMBED, os.path.join(EMBED, "python"), os.path.join(EMBED, "page")]
 import example  # noqa: E402
 import make_page  # noqa: E402
-from vamuretu import _clock, _faults, _headers, _jobs, _libraries, _nodes  # noqa: E402
+from vamuretu import _clock, _combining, _faults, _headers, _jobs, _libraries, _nodes  # noqa: E402
 
 # The types of parameters in C, each with those of Python that are passed for it.
 OF_PYTHON = {
@@ -52,10 +52,12 @@ PYTHON_NUMBERS = {
     _libraries: {"SHORT": "SM_LENGTH", "VERSION_NUMBER": "SM_VERSION_NUMBER"},
     _nodes: {"NO_ORDER": "SM_NO_ORDER", "GENERALS": "SM_GENERALS_MOST"},
     _clock: {"NO": "SM_NO", "NO_RUN": "SM_NO_RUN"},
+    _combining.Combination: {"MEDIAN": "SM_MEDIAN", "MAJORITY": "SM_MAJORITY", "ALL": "SM_ALL"},
 }
 RUST_NUMBERS = {"OK": "SM_OK", "NO": "SM_NO", "FAULT": "SM_FAULT", "MEMORY": "SM_MEMORY", "SHORT": "SM_LENGTH",
                 "NOBODY": "SM_NOBODY", "OTHER": "SM_OTHER", "TEXT": "SM_TEXT", "JSON": "SM_JSON",
-                "NO_ORDER": "SM_NO_ORDER", "NO_RUN": "SM_NO_RUN", "VERSION_NUMBER": "SM_VERSION_NUMBER", "FACT_RUN": "SM_FACT_RUN",
+                "NO_ORDER": "SM_NO_ORDER", "NO_RUN": "SM_NO_RUN", "MEDIAN": "SM_MEDIAN",
+                "MAJORITY": "SM_MAJORITY", "ALL": "SM_ALL", "VERSION_NUMBER": "SM_VERSION_NUMBER", "FACT_RUN": "SM_FACT_RUN",
                 "FACT_STATUS": "SM_FACT_STATUS", "FACT_DECISION": "SM_FACT_DECISION",
                 "FACT_FINDING": "SM_FACT_FINDING", "FACT_CONVICTION": "SM_FACT_CONVICTION",
                 "FACT_ACROSS": "SM_FACT_ACROSS", "FACT_EQUAL_ROOTS": "SM_FACT_EQUAL_ROOTS",

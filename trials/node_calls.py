@@ -7,13 +7,14 @@ ones, and those with the most that nodes send, hear and hand on: 16 rounds, 15 n
 signers that count and of 16 that can't, and 64 logs. Two nodes hand frames to each other. Roots of seeds are those of the
 reference. What a node refuses is told by its number, the first of several. The calls are made by ctypes, in a thread with
 little stack. Which run of a system is next is asked at drawn times beside the reference, and which run an admission admits of drawn
-and bent ones.
+and bent ones; what a rule makes of drawn orders, beside Python's own medians and counts.
 """
 import collections
 import ctypes
 import hashlib
 import os
 import random
+import statistics
 import struct
 import tempfile
 
@@ -607,6 +608,31 @@ def try_admissions(_, library):
     same("the kinds of ends that were not seen", lacking, set())
 
 
+def combined(library, rule, orders):
+    """The number of the call, and the order that it tells."""
+    made = ctypes.c_uint32(77)
+    return library.call("sm_node_combine", rule, bytes(orders), ctypes.c_size_t(len(orders)), ctypes.byref(made)), made.value
+
+
+def rules_of(orders):
+    """What each rule makes of orders: the median, the majority, and the order that all are."""
+    order, count = collections.Counter(orders).most_common(1)[0]
+    return statistics.median_low(orders), order if 2 * count > len(orders) else 0, order if count == len(orders) else 0
+
+
+def try_rules(_, library):
+    """What a rule makes of drawn orders is what Python makes of them. No order is told where there is no rule, or no order."""
+    draw, lengths = random.Random("rules"), [*range(1, 18), 255, 1000]
+    for _ in range(DRAWN):
+        most = draw.choice([1, 2, 3, 16])
+        orders = [draw.randrange(most) for _ in range(draw.choice(lengths))]
+        rule = draw.randrange(3)
+        same(f"rule {rule} of {orders}", combined(library, rule, orders), (DONE, rules_of(orders)[rule]))
+    wrong = [(0, []), (2, []), (3, [1]), (2**32 - 1, [1]), (0, [16]), (1, [1, 255, 1]), (2, [1, 1, 16])]
+    for rule, orders in wrong:
+        same(f"rule {rule} of {orders}", combined(library, rule, orders), (MISUSE, NO_ORDER))
+
+
 TRIALS = {
     "two in slot 2": try_pair,
     "keys for all slots": try_slots,
@@ -622,6 +648,7 @@ TRIALS = {
     "states of secrets": try_states,
     "the next run by drawn clocks": try_clock,
     "runs that admissions admit": try_admissions,
+    "one order of drawn ones": try_rules,
 }
 
 

@@ -141,6 +141,9 @@ static int nodes(void) {
     sm_admitted admitted = {{77}, 77, 77};
     WANT(sm_node_admit(id, 1, NULL, 0, &admitted, &fault) == SM_FAULT && fault == SM_A1 && admitted.run_id[0] == 77);
     WANT(sm_node_admit(id, 1, NULL, 1, &admitted, &fault) == SM_MISUSE && fault == 0 && admitted.traitors == 77);
+    WANT(sm_node_combine(SM_MEDIAN, NULL, 0, &number) == SM_MISUSE && number == SM_NO_ORDER);
+    WANT(sm_node_combine(SM_MEDIAN, NULL, 1, &number) == SM_MISUSE && number == SM_NO_ORDER);
+    WANT(sm_node_combine(SM_ALL, (const uint8_t[]){3, 3}, 2, &number) == SM_OK && number == 3);
     WANT(sm_node_round(&node, &number) == SM_MISUSE && number == 0);
     WANT(sm_node_awaits(&node, 1, &number) == SM_MISUSE && number == 0);
     WANT(sm_node_lacks(&node, 1, &number) == SM_MISUSE && number == 0);

@@ -2,6 +2,7 @@ pub mod Admitting
 pub mod Asking
 pub mod Bundles
 pub mod Clock
+pub mod Combining
 pub mod Driving
 pub mod EndedNode
 pub mod Faults

@@ -22,6 +22,7 @@ ghost use Rattle.sm_node.specs.Admitting.{IsReplied, TellsAdmitted};
 ghost use Rattle.sm_node.specs.Asking.{Tells};
 ghost use Rattle.sm_node.specs.Bundles.{HandsBundle, logs_in, walks_by};
 ghost use Rattle.sm_node.specs.Clock.{TellsNext, mark_of};
+ghost use Rattle.sm_node.specs.Combining.{Combines};
 ghost use Rattle.sm_node.specs.Driving.{Begins, Ends, Finishes, HandsLog, HandsReceipt, Hears, Sends, TellsOrder};
 ghost use Rattle.sm_node.specs.Handing.{IsUntouched};
 ghost use Rattle.sm_node.specs.Headers.{header_given, MakesHeader};
@@ -36,6 +37,7 @@ mod admitting;
 mod asking;
 mod bundles;
 mod clock;
+mod combining;
 mod ended;
 mod faults;
 mod handing;
@@ -54,6 +56,7 @@ use crate::admitting::{SmAdmitted, tell_admitted};
 use crate::asking::{Question, ask};
 use crate::bundles::{BundleWalks, SmLog, hand_bundle};
 use crate::clock::{NO_RUN, mark_of};
+use crate::combining::combine;
 use crate::faults::SmPair;
 use crate::headers::{SmNumbers, make_header};
 use crate::heads::{SmFrameHead, tell_head};
@@ -275,6 +278,21 @@ pub extern "C" fn sm_node_order(alloc: Global, node: &mut SmNode, decided: &mut 
     *decided = 0;
     node.with_held(alloc, &mut |held| held.order(decided))
         .status()
+}
+
+/// Tells the order that a rule makes of orders that several runs decided: 0 is the median, 1 the majority, and 2 stands
+/// for all. It is misuse if there is no such rule, if a number of the orders is no order's, or if there are none; then 255
+/// is told.
+#[unsafe(no_mangle)]
+pub extern "C" fn sm_node_combine(
+    alloc: Global,
+    combination: u32,
+    orders: &[u8],
+    order: &mut u32,
+) -> u32
+    ensures { IsTold (Combines combination orders.now order.new) result }
+{
+    combine(alloc, combination, orders, order).status()
 }
 
 /// Frees what a node holds, or keys, at any time, so that nothing is held. An open ring of keys is closed.

@@ -5,6 +5,7 @@ says where they are looked for, and docs/EMBED.md of the sources what each call 
 """
 
 from ._clock import NextRun, next_run
+from ._combining import Combination, combine
 from ._devices import AdmittedRun, Device, NotObeyed, Refusal, admitted_run
 from ._faults import EqualRoots, InputFault, LibraryMissing, Misuse, Nobody, NodeFault, NoWalk, OlderState, OtherRun
 from ._faults import OtherSystem, StateFault, UsedSet
@@ -37,6 +38,7 @@ __all__ = [
     "Admitted",
     "AdmittedRun",
     "CampaignVerdict",
+    "Combination",
     "Conviction",
     "Decision",
     "Device",
@@ -78,6 +80,7 @@ __all__ = [
     "audit",
     "audit_json",
     "bundle",
+    "combine",
     "decide",
     "decide_json",
     "draw",

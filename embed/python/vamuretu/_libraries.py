@@ -139,6 +139,7 @@ _ENDS: Dict[str, Dict[str, List[Any]]] = {
         + [POINTER(Pair)],
         "sm_node_shown": [c_char_p] + _READ + [POINTER(c_uint32)] + _FAULT,
         "sm_node_admit": [c_char_p, c_uint32] + _READ + [POINTER(Admitted)] + _FAULT,
+        "sm_node_combine": [c_uint32] + _READ + [POINTER(c_uint32)],
         "sm_node_header_numbers": _READ + [POINTER(Numbers)] + _FAULT,
         "sm_node_rounds": _READ + [POINTER(c_uint32)] + _FAULT,
         "sm_node_neighbours": _READ + [c_uint32, POINTER(c_uint32)] + _FAULT,

@@ -13,6 +13,10 @@ pub const NOBODY: u32 = 6;
 pub const OTHER: u32 = 7;
 /// In place of an order: the node has none.
 pub const NO_ORDER: u32 = 255;
+/// The rules that make one order of several, as `sm_node.h` has them.
+pub const MEDIAN: u32 = 0;
+pub const MAJORITY: u32 = 1;
+pub const ALL: u32 = 2;
 /// In place of a run: there is none.
 pub const NO_RUN: u32 = 4_294_967_295;
 
@@ -222,6 +226,7 @@ extern "C" {
         admitted: *mut SmAdmitted,
         fault: *mut u32,
     ) -> u32;
+    pub fn sm_node_combine(combination: u32, orders: *const u8, count: usize, order: *mut u32) -> u32;
     pub fn sm_node_order(node: *mut SmNode, order: *mut u32) -> u32;
     pub fn sm_node_free(node: *mut SmNode);
     pub fn sm_node_round(node: *mut SmNode, round: *mut u32) -> u32;
