@@ -18,8 +18,8 @@ abbrev pub AreRead : List ℕ → Option (Vec ℕ Global) → Type 0
 AreRead numbers (Some orders) = AreOrders numbers × (orders.items ≡ numbers)
 AreRead numbers None = AreOrders numbers → ⊥
 
--- the told order is what the rule of this number makes of the orders; or no order is told, and the answer says
--- why
+-- the told order is what the rule of this number makes of the orders; or no order is told, and the answer
+-- says why
 abbrev pub Combines : ℕ → List ℕ → ℕ → NodeReply → Type 0
 Combines combination orders order Done =
     AreOrders orders × (orders ≡ [] → ⊥)

@@ -58,7 +58,7 @@ impl fmt::Display for StateFault {
             StateFault::File(path, told) => write!(to, "{}: {told}", path.display()),
             StateFault::NoRecord(path) => {
                 write!(to, "{}: no whole record in a plain file with one name, or others may use it", path.display())
-            },
+            }
             StateFault::OtherSystem(path) => write!(to, "{}: of another system", path.display()),
             StateFault::Older { state, mark } => write!(to, "the state is of set {state}, and its mark of set {mark}"),
             StateFault::Used { set, next } => write!(to, "the seed of set {set} is used: the next set is {next}"),
