@@ -24,12 +24,7 @@ fn orders_of(alloc: Global, numbers: &[u8]) -> Result<Option<Vec<OrderNo>>, Allo
 
 /// Tells the order that a rule makes of orders. No order is told if there is no rule of this number, a number is no
 /// order's, or there are no orders.
-pub(crate) fn combine(
-    alloc: Global,
-    combination: u32,
-    orders: &[u8],
-    order: &mut u32,
-) -> NodeReply
+pub(crate) fn combine(alloc: Global, combination: u32, orders: &[u8], order: &mut u32) -> NodeReply
     ensures { Combines combination orders.now order.new result }
 {
     *order = NO_ORDER;
