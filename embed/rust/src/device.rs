@@ -109,7 +109,7 @@ impl Device {
 
     /// Why a run is not obeyed at this time, whatever is shown of it.
     fn must_be_new(&self, run: u32, now: i64) -> Result<(), NotObeyed> {
-        if self.newest.map_or(false, |newest| run <= newest) {
+        if self.newest >= Some(run) {
             return Err(NotObeyed::NotLater);
         }
         let age = i128::from(self.timetable.period) * i128::from(self.oldest);
