@@ -1,12 +1,12 @@
 """Devices that obey the decisions of a system (examples/device, embed/rust/examples/obey.rs): a valve opens if and only if more than m nodes show the value that opens it, in a new run.
 
-The archives are those of embed.py and nodes.py; without them, or without a compiler, nothing is tried, and a line says so. Without
-cargo the device in Rust is left out, and without openssl connections over TLS. The doors of nodes are played here. Decisions are
-made by the libraries: a system of three nodes, of which one may be faulty, decides each run both ways. A door lies in each way that
-there is: with receipts of one node alone, of another run, of another system, of two values, with decisions that are old, come
-again, are cut, or never end, or it says nothing. While there is no other door that says anything, no valve opens. As soon as
-another door is good each valve opens, and it closes when no decision comes any more, when another value is shown, and at the end.
-What the device in C is built of asks for no memory.
+The archive is that of nodes.py; without it, or without a compiler, nothing is tried, and a line says so. Without cargo, or the
+archive of embed.py, the device in Rust is left out, and without openssl connections over TLS. The doors of nodes are played
+here. Decisions are made by nodes of the library, and admissions by the reference: a system of three nodes, of which one may be
+faulty, decides each run both ways. A door lies in each way that there is: with receipts of one node alone, of another run, of
+another system, of two values, with decisions that are old, come again, are cut, or never end, or it says nothing. While there
+is no other door that says anything, no valve opens. As soon as another door is good each valve opens, and it closes when no
+decision comes any more, when another value is shown, and at the end. What the device in C is built of asks for no memory.
 """
 import concurrent.futures
 import contextlib
@@ -26,10 +26,13 @@ import threading
 import time
 
 from bindings import ARCHIVES, build_libraries
-from embed import EMBED, SANITIZERS, TOP, IsNotBuilt, do, source
-from processes import OF_C, POOL
+from embed import EMBED, SANITIZERS, TOP, do, source
+from processes import OF_C, POOL, try_with_library
 from programs import run, side_by_side
 from receipts import ASKS
+from model.identity import Roots, set_seed, state_after
+from model.network import Header, make_network
+from model.system import TURNS, Admission, System
 
 PYTHON, RUST = os.path.join(EMBED, "python"), os.path.join(EMBED, "rust")
 DEVICE = os.path.join(TOP, "examples", "device")
@@ -49,27 +52,28 @@ HEAP = "-DSM_POOL_BYTES=1048576"
 
 
 class Maker:
-    """A system, and the decisions of its runs, by the package for Python. Its libraries are loaded by a process of their own."""
+    """A system, as the reference makes it of roots, and the decisions of its runs, which nodes of the package for Python make."""
 
     def __init__(self, vamuretu, context):
         self.calls = vamuretu
-        self.secrets = [bytes([7 + node]) * 32 for node in range(NODES)]
-        self.roots = [vamuretu.enroll(secret, LEVELS, 2) for secret in self.secrets]
-        lines = [f"generals {NODES}", *(f"edge {a} {b}" for a, b in itertools.combinations(range(NODES), 2))]
-        lines += ["traitors 1", "diameter 1", "orders 3", "choice 0", *(f"root {vamuretu.identity(it)}" for it in self.roots), "end"]
-        text = "".join(f"{line}\n" for line in lines).encode()
-        self.system = vamuretu.system(text, LEVELS, 2, context, turns=True)
-        self.id = vamuretu.system_id(self.system)
+        secrets = [bytes([7 + node]) * 32 for node in range(NODES)]
+        self.seeds = [[set_seed(state_after(secret, at)) for at in range(2**LEVELS)] for secret in secrets]
+        self.roots = [Roots(2, tuple(side_by_side(lambda seed: vamuretu.root(seed, 2), seeds))) for seeds in self.seeds]
+        net = make_network((NODES, 1, 1, 3, 0), list(itertools.combinations(range(NODES), 2)), False)
+        header = Header(2, 0, net, tuple(it.identity().top for it in self.roots))
+        self.system = System(header, TURNS, LEVELS, context)
 
     def admission(self, number):
-        return self.calls.admission(number, self.system, enumerate(self.roots))
+        """The admission of the set of a run."""
+        at = self.system.set_of(number)
+        return Admission(self.system, at, tuple(it.roots[at] for it in self.roots), tuple(it.opening(at) for it in self.roots))
 
     def receipts(self, number, value):
         """The receipts of all nodes of a run that decide a value."""
-        admitted = self.calls.admit(number, self.admission(number), system=self.id)
-        seeds = [self.calls.SetState.first(self.secrets[it], self.id).advance_to(number // 4).seed(self.id) for it in admitted.run.nodes]
-        nodes = [self.calls.Node(admitted.header, at, seed, None if at else value) for at, seed in enumerate(seeds)]
-        for _ in range(admitted.header.rounds):
+        header = self.calls.read_header(self.admission(number).header_of(number).spell())
+        seeds = [self.seeds[node][self.system.set_of(number)] for node in self.system.nodes_of(number)]
+        nodes = [self.calls.Node(header, at, seed, None if at else value) for at, seed in enumerate(seeds)]
+        for _ in range(header.rounds):
             for node in nodes:
                 node.begin_round()
             for one, other in itertools.permutations(nodes, 2):
@@ -81,18 +85,19 @@ class Maker:
                 all_nodes.enter_context(node).finish()
             return [node.receipt() for node in nodes]
 
-    def decisions(self, numbers):
-        """Of each run its admission, and the receipts of each value."""
-        return dict(side_by_side(lambda it: (it, (self.admission(it), {v: self.receipts(it, v) for v in (OPENS, CLOSES)})), numbers))
+    def decision(self, number):
+        """The number of a run, its admission, and the receipts of each value."""
+        return number, (self.admission(number).spell(), {value: self.receipts(number, value) for value in (OPENS, CLOSES)})
 
 
 def make_decisions(path):
-    """Writes the id of a system with the decisions of its runs, and an admission of each set of another system."""
+    """Writes the id of a system with the decisions of its runs, and the admissions of another system."""
     import vamuretu
 
     own, other = Maker(vamuretu, bytes(32)), Maker(vamuretu, bytes(31) + b"\1")
+    others = {number: other.admission(number).spell() for number in RUNS}
     with open(path, "wb") as file:
-        pickle.dump((own.id, own.decisions(RUNS), {number: other.admission(number) for number in RUNS}), file)
+        pickle.dump((own.system.id.hex(), dict(side_by_side(own.decision, RUNS)), others), file)
 
 
 # ---- the doors of nodes
@@ -450,7 +455,8 @@ def try_device(tally, name, kind, made):
 def try_built(tally, folder):
     """All trials over the archives."""
     libraries, made = os.path.join(folder, "libraries"), os.path.join(folder, "made")
-    build_libraries(libraries, source("heap.c"))
+    there = {name: path for name, path in ARCHIVES.items() if os.path.exists(path)}
+    build_libraries(libraries, source("heap.c"), there)
     environ = {"VAMURETU_LIBRARIES": libraries, "PYTHONPATH": PYTHON}
     do([sys.executable, "-B", os.path.abspath(__file__), made], env={**os.environ, **environ})
     with open(made, "rb") as file:
@@ -459,10 +465,10 @@ def try_built(tally, folder):
     tally.hold("C, memory", asks_wrong(folder))
     tally.hold("C, words", words_wrong(kinds["C"][0][0]))
     kinds["Python"] = [sys.executable, "-B", os.path.join(DEVICE, "obey.py")], environ
-    if shutil.which("cargo") and shutil.which("ar"):
+    if shutil.which("cargo") and shutil.which("ar") and there == ARCHIVES:
         kinds["Rust"] = build_rust(folder, libraries)
     else:
-        tally.note("left out: the device in Rust, as cargo or ar is not there")
+        tally.note("left out: the device in Rust, as cargo, ar or libsm_embed.a is not there")
     for name, kind in kinds.items():
         try_device(tally, name, kind, made)
     if shutil.which("openssl"):
@@ -472,16 +478,7 @@ def try_built(tally, folder):
 
 
 def trials(_, tally):
-    lacks = [os.path.relpath(it, TOP) for it in ARCHIVES.values() if not os.path.exists(it)]
-    lacks += [] if shutil.which("cc") else ["cc"]
-    if lacks:
-        tally.note(f"left out: {' and '.join(lacks)} is not there")
-        return
-    with tempfile.TemporaryDirectory() as folder:
-        try:
-            try_built(tally, folder)
-        except IsNotBuilt as told:
-            tally.fail(str(told))
+    try_with_library(tally, lambda folder: try_built(tally, folder))
 
 
 if __name__ == "__main__":
