@@ -19,9 +19,9 @@ from tally import Tally
 SUBJECTS = ["scripts", "worked", "walk", "campaigns", "pictures", "prefixes", "vectors", "second_answers", "identities", "differs"]
 SUBJECTS += ["json_texts", "costs", "refusals", "slips", "calls", "devices", "many_files", "load", "engines", "worlds", "embed"]
 SUBJECTS += ["nodes", "node_calls", "system_calls", "receipts", "obeying", "datagrams", "shown", "power", "system", "complete", "bindings"]
-SUBJECTS += ["watching", "archives", "fuzzing", "controllers", "soaking", "attacks", "units", "page", "release"]
+SUBJECTS += ["watching", "archives", "fuzzing", "controllers", "handed_out", "soaking", "attacks", "units", "page", "release"]
 LIBRARIES = ["worlds", "embed", "nodes", "node_calls", "system_calls", "receipts", "obeying", "datagrams", "shown", "power", "system", "complete"]
-LIBRARIES += ["bindings", "watching", "archives", "fuzzing", "controllers", "soaking", "attacks", "units", "page", "release"]
+LIBRARIES += ["bindings", "watching", "archives", "fuzzing", "controllers", "handed_out", "soaking", "attacks", "units", "page", "release"]
 # So many of the slowest subjects are named.
 SLOWEST = 5
 # What no subject takes, in seconds, however busy the machine is: trials that take longer hang.

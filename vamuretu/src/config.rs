@@ -7,6 +7,7 @@ use std::collections::{BTreeMap, BTreeSet};
 use std::fs;
 use std::net::{IpAddr, SocketAddr};
 use std::path::{Path, PathBuf};
+use std::time::Duration;
 
 use serde::de::{DeserializeOwned, Error};
 use serde::{Deserialize, Deserializer};
@@ -144,6 +145,22 @@ pub struct Watcher {
     pub keys: Vec<Pin>,
 }
 
+/// The door for devices and programs on other machines, which ask for decisions.
+#[derive(Debug, Clone, Deserialize)]
+#[serde(deny_unknown_fields)]
+pub struct Devices {
+    /// Where they connect to.
+    pub listen: SocketAddr,
+    /// The pins of their keys, each of which may connect.
+    /// Bounds: 1 to 64 with `[key]`, each once in the file, and else none.
+    #[serde(default)]
+    pub keys: Vec<Pin>,
+    /// Where they connect from.
+    /// Bounds: 1 to 64 without `[key]`, each once, and else none.
+    #[serde(default)]
+    pub addresses: Vec<IpAddr>,
+}
+
 /// A node, as a watcher knows it.
 #[derive(Debug, Clone, Deserialize)]
 #[serde(deny_unknown_fields)]
@@ -179,9 +196,9 @@ pub struct Metrics {
 #[derive(Debug, Clone, Deserialize)]
 #[serde(deny_unknown_fields)]
 pub struct Spool {
-    /// How long a log is kept that each watcher has acknowledged.
+    /// How long a log is kept that each watcher has acknowledged, and a decision.
     pub days: u32,
-    /// How many bytes the logs have at most.
+    /// How many bytes the logs and the decisions have at most.
     pub most_bytes: u64,
 }
 
@@ -208,6 +225,8 @@ pub struct NodeFile {
     /// The watchers, to which the logs go.
     #[serde(default)]
     pub watchers: Vec<Watcher>,
+    /// The door for devices and programs on other machines, which ask for decisions.
+    pub devices: Option<Devices>,
     /// The key of connections. Without it these are plain, and a tunnel protects them.
     pub key: Option<Key>,
     /// When runs begin, and how long a round is.
@@ -339,6 +358,28 @@ fn wrong_keys<'a>(key: &Option<Key>, ends: impl Iterator<Item = (String, &'a [Pi
     None
 }
 
+/// The most devices that a door is for.
+const MOST_DEVICES: usize = 64;
+
+impl Devices {
+    fn wrong(&self, key: &Option<Key>) -> Option<String> {
+        let (keys, mut met) = (self.keys.len(), BTreeSet::new());
+        let addresses = self.addresses.len();
+        let twice = self.addresses.iter().find(|it| !met.insert(it.to_canonical()));
+        let wrong = match key {
+            Some(_) if keys == 0 || addresses > 0 => {
+                "with [key] it has keys, the pins of the devices', and no addresses"
+            }
+            None if addresses == 0 || keys > 0 => {
+                "without [key] it has addresses, from which devices come, and no keys"
+            }
+            _ if keys.max(addresses) > MOST_DEVICES => return Some(format!("[devices]: more than {MOST_DEVICES}")),
+            _ => return twice.map(|address| format!("[devices]: the address {address} is there twice")),
+        };
+        Some(format!("[devices]: {wrong}"))
+    }
+}
+
 /// What is wrong with the numbers of nodes.
 fn wrong_numbers(what: &str, numbers: impl Iterator<Item = u32>, nodes: usize) -> Option<String> {
     let mut met = BTreeSet::new();
@@ -347,6 +388,11 @@ fn wrong_numbers(what: &str, numbers: impl Iterator<Item = u32>, nodes: usize) -
 }
 
 impl Clock {
+    /// From the beginning of a run to that of the next.
+    pub fn period(&self) -> Duration {
+        Duration::from_millis(self.period_ms.into())
+    }
+
     fn wrong(&self) -> Option<String> {
         if self.period_ms == 0 || self.round_ms < 4 {
             return Some("[clock]: a period has 1 ms at least, and a round 4".into());
@@ -376,6 +422,9 @@ impl File for NodeFile {
             return Some("[system] roots, [node] number: there is one file for each of 2 to 16 nodes".into());
         }
         if let wrong @ Some(_) = wrong_numbers("[[peers]]", self.peers.iter().map(|peer| peer.number), nodes) {
+            return wrong;
+        }
+        if let wrong @ Some(_) = self.devices.as_ref().and_then(|devices| devices.wrong(&self.key)) {
             return wrong;
         }
         if let wrong @ Some(_) = wrong_keys(&self.key, self.ends()) {
@@ -414,7 +463,9 @@ impl NodeFile {
     /// All other ends, with the pins of each.
     fn ends(&self) -> impl Iterator<Item = (String, &[Pin])> {
         let peers = self.peers.iter().map(|peer| (format!("[[peers]] {}", peer.number), &peer.keys[..]));
-        peers.chain(self.watchers.iter().map(|it| (format!("[[watchers]] {}", it.address), &it.keys[..])))
+        let watchers = self.watchers.iter().map(|it| (format!("[[watchers]] {}", it.address), &it.keys[..]));
+        let devices = self.devices.iter().flat_map(|it| it.keys.chunks(1)).map(|key| ("[devices]".into(), key));
+        peers.chain(watchers).chain(devices)
     }
 
     /// Compares the pin of this node's key with those that its own place among the peers names, if it stands there.
@@ -682,6 +733,36 @@ mod tests {
             .expect_err("refused")
             .line
             .contains("each of 4 nodes"));
+    }
+
+    #[test]
+    fn devices_have_keys_or_addresses() {
+        let read = |text: String| read_text::<NodeFile>(Path::new("2.toml"), &text).map_err(|told| told.line);
+        let of = |lines: &str| format!("{}\n[devices]\nlisten = \"127.0.0.1:4732\"\n{lines}\n", four());
+        let keyed = read(of(&format!("keys = [\"{}\", \"{}\"]", pin('a'), pin('b')))).expect("a configuration");
+        assert_eq!(keyed.devices.map(|it| it.keys.len()), Some(2));
+        let plain = |lines: &str| {
+            let text = of(lines).replace("[key]\nfile = \"2/key\"\n", "");
+            text.lines().filter(|line| !line.starts_with("keys = [\"")).map(|it| format!("{it}\n")).collect::<String>()
+        };
+        assert!(read(plain("addresses = [\"192.0.2.9\", \"2001:db8::1\"]")).is_ok());
+        let one = format!("keys = [\"{}\"]", pin('1'));
+        let wrong = [
+            (of(""), "with [key] it has keys"),
+            (of("addresses = [\"192.0.2.9\"]"), "with [key] it has keys"),
+            (of("keys = [\"1\"]"), "64 hexadecimal digits"),
+            (of(&one), "is there twice"),
+            (plain(""), "without [key] it has addresses"),
+            (plain("addresses = [\"192.0.2.9\", \"::ffff:192.0.2.9\"]"), "is there twice"),
+            (
+                plain(&format!("addresses = {:?}", (0..65).map(|it| format!("192.0.2.{it}")).collect::<Vec<_>>())),
+                "more than 64",
+            ),
+        ];
+        for (text, told) in wrong {
+            let line = read(text).expect_err(told);
+            assert!(line.contains(told), "{line}, and not {told}");
+        }
     }
 
     #[test]

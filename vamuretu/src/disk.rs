@@ -9,11 +9,14 @@ use std::path::{Path, PathBuf};
 
 use nix::errno::Errno;
 use nix::fcntl::{flock, FlockArg};
+use sha2::{Digest, Sha256};
 
 use crate::End;
 
 /// What the name of a file ends with that is not whole yet.
 pub const NEW: &str = ".new";
+/// The bytes behind those of a sealed file.
+pub const SEAL: usize = 32;
 
 /// The folder of a file.
 pub fn folder_of(path: &Path) -> &Path {
@@ -84,6 +87,31 @@ pub fn put(path: &Path, mode: u32, bytes: &[u8]) -> io::Result<()> {
     sync_folder(folder_of(path))
 }
 
+/// Puts bytes into the place of a file with their SHA-256 behind them, and does not wait for the disk. A loss of power may cut
+/// the file, which `unsealed` sees.
+pub fn put_sealed(path: &Path, mode: u32, bytes: &[u8]) -> io::Result<()> {
+    let mut name = OsString::from(path);
+    name.push(NEW);
+    let fresh = PathBuf::from(name);
+    let write = || {
+        let mut file = OpenOptions::new().write(true).create(true).truncate(true).mode(mode).open(&fresh)?;
+        file.write_all(bytes)?;
+        file.write_all(&Sha256::digest(bytes))?;
+        fs::rename(&fresh, path)
+    };
+    write().inspect_err(|_| _ = fs::remove_file(&fresh))
+}
+
+/// The bytes of a file that `put_sealed` has put, if they are all there.
+pub fn unsealed(mut file: Vec<u8>) -> io::Result<Vec<u8>> {
+    let length = file.len().saturating_sub(SEAL);
+    if file.len() < SEAL || file[length..] != Sha256::digest(&file[..length])[..] {
+        return Err(io::Error::new(io::ErrorKind::InvalidData, "its file is not as it was written"));
+    }
+    file.truncate(length);
+    Ok(file)
+}
+
 /// Makes a file of bytes, if nothing is there. They are on the disk when this returns, and their name too.
 pub fn create(path: &Path, mode: u32, bytes: &[u8]) -> io::Result<()> {
     let mut file = match OpenOptions::new().write(true).create_new(true).mode(mode).open(path) {
@@ -122,6 +150,22 @@ mod tests {
         assert!(Lock::take(&link).is_ok());
         assert_eq!(Lock::take(&one.join("none")).map(|_| ()).expect_err("no folder").status, 5);
         fs::remove_file(&link).and_then(|()| fs::remove_dir_all(&one)).expect("taken away");
+    }
+
+    #[test]
+    fn a_sealed_file_that_is_cut_is_seen() {
+        let here = folder("sealed");
+        let path = here.join("file");
+        for bytes in [&b""[..], b"a decision"] {
+            put_sealed(&path, 0o600, bytes).expect("a file");
+            let file = fs::read(&path).expect("a file");
+            assert_eq!(unsealed(file.clone()).expect("whole"), bytes);
+            for cut in 0..file.len() {
+                assert!(unsealed(file[..cut].into()).is_err(), "{cut}");
+            }
+            assert!(unsealed(vec![0; file.len()]).is_err() && unsealed([&file[..], &[0]].concat()).is_err());
+        }
+        fs::remove_dir_all(&here).expect("taken away");
     }
 
     #[test]

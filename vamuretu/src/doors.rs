@@ -1,9 +1,9 @@
-//! The doors to the network: who connects has to show who it is, and takes the place of an older connection where there are
-//! too many.
+//! The doors to the network, for nodes and for devices: who connects has to show who it is, and takes the place of an older
+//! connection where there are too many.
 //!
 //! Who has not shown who it is has one of few places, by its address. Where these are taken, the oldest connection that has one
 //! ends. So connections of a stranger end each other, and neither those of known ends, nor those from other addresses that are
-//! configured. Who it is says the key, and where connections are plain the hello, as far as the address does not say another.
+//! configured. Who it is says the key, and where connections are plain the greeting, as far as the address does not say another.
 
 use std::collections::{BTreeMap, BTreeSet};
 use std::future::Future;
@@ -17,7 +17,7 @@ use tokio::sync::oneshot;
 use tokio_rustls::TlsAcceptor;
 
 use crate::config::Id;
-use crate::frames::{self, Stream, Transport};
+use crate::frames::{self, Greeting, Hello, Stream, Transport};
 use crate::pins::Pin;
 use crate::End;
 
@@ -113,19 +113,26 @@ impl<K: Copy + PartialEq> Drop for Place<K> {
     }
 }
 
-/// An end that may connect.
+/// An end that may connect: a node by its number, or a device by its place in the configuration.
 #[derive(Debug, Clone)]
 pub struct Known {
-    pub node: u32,
+    pub number: u32,
     pub address: Option<IpAddr>,
     pub keys: Vec<Pin>,
 }
 
-/// A connection whose other end has shown who it is.
-pub struct Shown {
-    pub node: u32,
+/// A connection whose other end has shown who it is, and has greeted.
+pub struct Shown<G = Hello> {
+    pub number: u32,
     pub from: SocketAddr,
     pub stream: Stream,
+    pub greeting: G,
+}
+
+/// A connection that has greeted, where connections are plain, or has shown its key, and has still to greet.
+enum Recognised<G> {
+    Plain(Shown<G>),
+    Keyed(Shown<()>),
 }
 
 /// The places of those that have not shown who they are. A node speaks as soon as it has connected, so a flood of connections
@@ -169,6 +176,15 @@ async fn speaks(stream: &TcpStream) -> io::Result<()> {
     }
 }
 
+impl<G> Recognised<G> {
+    fn number(&self) -> u32 {
+        match self {
+            Recognised::Plain(shown) => shown.number,
+            Recognised::Keyed(shown) => shown.number,
+        }
+    }
+}
+
 fn denied(what: String) -> io::Error {
     io::Error::new(ErrorKind::PermissionDenied, what)
 }
@@ -202,9 +218,10 @@ impl Door {
     }
 
     /// Takes connections for ever. What is served is a connection whose other end has shown who it is.
-    pub async fn open<S, F>(self: Arc<Door>, listener: TcpListener, serve: S)
+    pub async fn open<G, S, F>(self: Arc<Door>, listener: TcpListener, serve: S)
     where
-        S: Fn(Shown) -> F + Clone + Send + Sync + 'static,
+        G: Greeting + Send + 'static,
+        S: Fn(Shown<G>) -> F + Clone + Send + Sync + 'static,
         F: Future<Output = io::Result<()>> + Send + 'static,
     {
         let addresses: BTreeSet<IpAddr> = self.known.iter().filter_map(|it| it.address).collect();
@@ -236,7 +253,7 @@ impl Door {
     }
 
     /// Learns who has connected, and serves it.
-    async fn meet<S, F>(
+    async fn meet<G, S, F>(
         self: Arc<Door>,
         stream: TcpStream,
         from: SocketAddr,
@@ -244,7 +261,8 @@ impl Door {
         silent: Place<IpAddr>,
         serve: S,
     ) where
-        S: Fn(Shown) -> F,
+        G: Greeting,
+        S: Fn(Shown<G>) -> F,
         F: Future<Output = io::Result<()>>,
     {
         let known = async {
@@ -252,22 +270,22 @@ impl Door {
             let speaking = self.unknown(is_configured).speaking.take(from.ip());
             speaking.hold(in_time(self.recognise(stream, from))).await
         };
-        let mut shown = match known.await {
-            Ok(shown) => shown,
+        let recognised = match known.await {
+            Ok(recognised) => recognised,
             Err(told) => return self.refuse(from, &told),
         };
-        let node = shown.node;
+        let number = recognised.number();
         let serving = async {
-            match in_time(self.compare_hello(&mut shown)).await {
-                Ok(()) => serve(shown).await,
+            match in_time(self.greeted(recognised)).await {
+                Ok(shown) => serve(shown).await,
                 Err(told) => {
                     self.refuse(from, &told);
                     Ok(())
                 }
             }
         };
-        if let Err(told) = self.shown.take(node).hold(serving).await {
-            tracing::debug!(%from, node, %told, "a connection ended");
+        if let Err(told) = self.shown.take(number).hold(serving).await {
+            tracing::debug!(%from, number, %told, "a connection ended");
         }
     }
 
@@ -278,35 +296,43 @@ impl Door {
         }
     }
 
-    /// Learns who has connected: by the key, or where connections are plain by the hello.
-    async fn recognise(&self, stream: TcpStream, from: SocketAddr) -> io::Result<Shown> {
+    /// Learns who has connected: by the key, or where connections are plain by the greeting.
+    async fn recognise<G: Greeting>(&self, stream: TcpStream, from: SocketAddr) -> io::Result<Recognised<G>> {
         frames::set_up(&stream, self.most_unanswered)?;
         let Some(acceptor) = &self.acceptor else {
             let mut stream: Stream = Box::new(stream);
-            let said = u32::from(frames::read_hello(&mut stream, &self.system).await?.node);
-            let is_there = |it: &&Known| it.node == said && it.address.map_or(true, |address| address == from.ip());
-            let known = self.known.iter().find(is_there);
-            let node = known.ok_or_else(|| denied(format!("from this address comes no node {said}")))?.node;
-            return Ok(Shown { node, from, stream });
+            let greeting: G = frames::read_greeting(&mut stream, &self.system).await?;
+            let number = self.number_at(from.ip(), greeting.node())?;
+            return Ok(Recognised::Plain(Shown { number, from, stream, greeting }));
         };
         let stream = acceptor.accept(stream).await?;
         let shown = stream.get_ref().1.peer_certificates().and_then(|all| all.first()).map(Pin::of);
         let known = shown.and_then(|pin| self.known.iter().find(|it| it.keys.contains(&pin)));
-        let node = known.ok_or_else(|| denied("no key".into()))?.node;
-        Ok(Shown { node, from, stream: Box::new(stream) })
+        let number = known.ok_or_else(|| denied("no key".into()))?.number;
+        Ok(Recognised::Keyed(Shown { number, from, stream: Box::new(stream), greeting: () }))
     }
 
-    /// Compares the hello of a node with its key, if connections are not plain.
-    async fn compare_hello(&self, shown: &mut Shown) -> io::Result<()> {
-        if self.acceptor.is_none() {
-            return Ok(());
-        }
-        let node = shown.node;
-        let hello = frames::read_hello(&mut shown.stream, &self.system).await;
-        let hello = hello.map_err(|told| io::Error::new(told.kind(), format!("node {node}: {told}")))?;
-        match u32::from(hello.node) == node {
-            true => Ok(()),
-            false => Err(denied(format!("node {node} says that it is node {}", hello.node))),
+    /// Who comes from an address, and says to be this node if it is one.
+    fn number_at(&self, from: IpAddr, said: Option<u32>) -> io::Result<u32> {
+        let is_there = |it: &&Known| {
+            said.map_or(true, |said| said == it.number) && it.address.map_or(true, |address| address == from)
+        };
+        let known = self.known.iter().find(is_there);
+        let who = || said.map_or("nobody who may".into(), |node| format!("no node {node}"));
+        known.map(|it| it.number).ok_or_else(|| denied(format!("from this address comes {}", who())))
+    }
+
+    /// Has an end greet that has shown its key, and compares the node that it says to be.
+    async fn greeted<G: Greeting>(&self, recognised: Recognised<G>) -> io::Result<Shown<G>> {
+        let Shown { number, from, mut stream, .. } = match recognised {
+            Recognised::Plain(shown) => return Ok(shown),
+            Recognised::Keyed(shown) => shown,
+        };
+        let greeting = frames::read_greeting::<G, _>(&mut stream, &self.system).await;
+        let greeting = greeting.map_err(|told| io::Error::new(told.kind(), format!("number {number}: {told}")))?;
+        match greeting.node().filter(|&node| node != number) {
+            None => Ok(Shown { number, from, stream, greeting }),
+            Some(node) => Err(denied(format!("node {number} says that it is node {node}"))),
         }
     }
 }
@@ -319,7 +345,7 @@ mod tests {
     use tokio::sync::mpsc;
 
     use super::*;
-    use crate::frames::Hello;
+    use crate::frames::Wanted;
     use crate::pins::tests::new_own;
 
     const SYSTEM: Id = [7; 32];
@@ -341,8 +367,8 @@ mod tests {
         let listener = TcpListener::bind((Ipv4Addr::LOCALHOST, 0)).await.expect("a listener");
         let (at, (tell, come)) = (listener.local_addr().expect("an address"), mpsc::unbounded_channel());
         let door = Door::new(SYSTEM, known, own, SOME_TIME, places).expect("a door");
-        tokio::spawn(door.open(listener, move |mut shown| {
-            let _ = tell.send(shown.node);
+        tokio::spawn(door.open(listener, move |mut shown: Shown| {
+            let _ = tell.send(shown.number);
             async move {
                 frames::write(&mut shown.stream, frames::HELLO, &[b"in"]).await?;
                 frames::read(&mut shown.stream, 0).await.map(|_| ())
@@ -366,7 +392,7 @@ mod tests {
     }
 
     fn known(node: u32, keys: Vec<Pin>) -> Known {
-        Known { node, address: None, keys }
+        Known { number: node, address: None, keys }
     }
 
     fn keyed() -> Transport {
@@ -401,10 +427,51 @@ mod tests {
         within(async {
             let plain = Transport::new(None).expect("plain");
             let (here, elsewhere) = (Some(Ipv4Addr::LOCALHOST.into()), Some(Ipv4Addr::new(192, 0, 2, 1).into()));
-            let of = |node, address| Known { node, address, keys: vec![] };
+            let of = |node, address| Known { number: node, address, keys: vec![] };
             let door = opened(&plain, vec![of(1, here), of(2, elsewhere), of(3, None)], 1).await;
             for (node, wanted) in [(1, true), (2, false), (3, true), (4, false)] {
                 assert_eq!(is_in(connect(&door, &plain, node).await).await, wanted, "{node}");
+            }
+        });
+    }
+
+    /// Whether a device that connects by a key is let in, which says what it wants of a system.
+    async fn is_device_in(to: &Opened, by: &Transport, system: Id) -> bool {
+        let pins: Vec<Pin> = to.pin.into_iter().collect();
+        let Ok(mut stream) = by.connect(to.at, &pins, SOME_TIME).await else { return false };
+        let said = frames::write(&mut stream, frames::DECISIONS_WANTED, &[&system, &[0, 0, 0, 7]]).await;
+        said.is_ok() && is_in(Ok(stream)).await
+    }
+
+    async fn opened_for_devices(own: &Transport, known: Vec<Known>) -> Opened {
+        let listener = TcpListener::bind((Ipv4Addr::LOCALHOST, 0)).await.expect("a listener");
+        let (at, (tell, come)) = (listener.local_addr().expect("an address"), mpsc::unbounded_channel());
+        let door = Door::new(SYSTEM, known, own, SOME_TIME, 1).expect("a door");
+        tokio::spawn(door.open(listener, move |mut shown: Shown<Wanted>| {
+            let _ = tell.send(shown.number);
+            async move {
+                assert_eq!(shown.greeting.first, Some(7));
+                frames::write(&mut shown.stream, frames::HELLO, &[b"in"]).await
+            }
+        }));
+        Opened { at, pin: own.pin(), come }
+    }
+
+    #[test]
+    fn devices_come_in_by_their_keys_or_addresses() {
+        within(async {
+            let (own, one, two, stranger) = (keyed(), keyed(), keyed(), keyed());
+            let mut door = opened_for_devices(&own, vec![known(0, pins(&[&one])), known(1, pins(&[&two]))]).await;
+            assert!(is_device_in(&door, &one, SYSTEM).await && is_device_in(&door, &two, SYSTEM).await);
+            assert_eq!((door.come.recv().await, door.come.recv().await), (Some(0), Some(1)));
+            assert!(!is_device_in(&door, &stranger, SYSTEM).await, "another key");
+            assert!(!is_device_in(&door, &one, [8; 32]).await, "another system");
+            assert!(!is_in(connect(&door, &one, 0).await).await, "the hello of a node");
+            let plain = Transport::new(None).expect("plain");
+            for (address, wanted) in [(Ipv4Addr::LOCALHOST, true), (Ipv4Addr::new(192, 0, 2, 1), false)] {
+                let known = Known { number: 0, address: Some(address.into()), keys: vec![] };
+                let door = opened_for_devices(&plain, vec![known]).await;
+                assert_eq!(is_device_in(&door, &plain, SYSTEM).await, wanted, "{address}");
             }
         });
     }
@@ -415,9 +482,9 @@ mod tests {
             let plain = Transport::new(None).expect("plain");
             let listener = TcpListener::bind("[::]:0").await.expect("a listener");
             let at = SocketAddr::from((Ipv4Addr::LOCALHOST, listener.local_addr().expect("an address").port()));
-            let known = Known { node: 1, address: Some(at.ip()), keys: vec![] };
+            let known = Known { number: 1, address: Some(at.ip()), keys: vec![] };
             let door = Door::new(SYSTEM, vec![known], &plain, SOME_TIME, 1).expect("a door");
-            tokio::spawn(door.open(listener, |mut shown| async move {
+            tokio::spawn(door.open(listener, |mut shown: Shown| async move {
                 frames::write(&mut shown.stream, frames::HELLO, &[b"in"]).await
             }));
             let to = Opened { at, pin: None, come: mpsc::unbounded_channel().1 };

@@ -29,6 +29,14 @@ pub const FRAME: u8 = b'F';
 pub const LOG: u8 = b'L';
 pub const ACKNOWLEDGED: u8 = b'A';
 pub const REFUSED: u8 = b'R';
+/// Between neighbours: that this end wants receipts, with nothing behind it; a receipt behind the number of its run.
+pub const RECEIPTS_WANTED: u8 = b'K';
+pub const RECEIPT: u8 = b'T';
+/// At the door for devices: which decisions are wanted; a decision; runs of which none can be handed out; that the node is there.
+pub const DECISIONS_WANTED: u8 = b'W';
+pub const DECISION: u8 = b'D';
+pub const MISSING: u8 = b'M';
+pub const PRESENT: u8 = b'P';
 
 /// How long a connection may take to be made, and to say who is there.
 pub const MOST_GREETING: Duration = Duration::from_secs(5);
@@ -42,7 +50,21 @@ const MOST_UNANSWERED: Duration = Duration::from_secs(2);
 /// After so long without a byte the other end's machine is asked whether it is there.
 const SILENT: Duration = Duration::from_secs(5);
 
-/// The body of the message that each connection begins with.
+/// The message that a connection begins with.
+pub trait Greeting: Sized {
+    const KIND: u8;
+    const BYTES: usize;
+
+    fn read(body: &[u8]) -> Option<Self>;
+
+    /// The system that it is of.
+    fn system(&self) -> &Id;
+
+    /// The node that sends it, if a node does.
+    fn node(&self) -> Option<u32>;
+}
+
+/// The greeting of a node.
 #[derive(Debug, Clone, Copy, PartialEq, Eq)]
 pub struct Hello {
     pub system: Id,
@@ -50,20 +72,63 @@ pub struct Hello {
 }
 
 impl Hello {
-    const BYTES: usize = 33;
-
     pub fn to_bytes(self) -> [u8; Hello::BYTES] {
         let mut bytes = [self.node; Hello::BYTES];
         bytes[..32].copy_from_slice(&self.system);
         bytes
     }
+}
 
-    pub fn read(body: &[u8]) -> Option<Hello> {
-        let (system, node) = body.split_at_checked(32)?;
+impl Greeting for Hello {
+    const KIND: u8 = HELLO;
+    const BYTES: usize = 33;
+
+    fn read(body: &[u8]) -> Option<Hello> {
+        let (system, node) = body.split_first_chunk()?;
         match node {
-            &[node] => Some(Hello { system: system.try_into().ok()?, node }),
+            &[node] => Some(Hello { system: *system, node }),
             _ => None,
         }
+    }
+
+    fn system(&self) -> &Id {
+        &self.system
+    }
+
+    fn node(&self) -> Option<u32> {
+        Some(self.node.into())
+    }
+}
+
+/// The greeting of a device.
+#[derive(Debug, Clone, Copy, PartialEq, Eq)]
+pub struct Wanted {
+    pub system: Id,
+    /// The first run of which it wants the decision, or none for the decisions from now on.
+    pub first: Option<u32>,
+}
+
+impl Wanted {
+    /// What stands in the place of a run for the decisions from now on.
+    const NOW: u32 = u32::MAX;
+}
+
+impl Greeting for Wanted {
+    const KIND: u8 = DECISIONS_WANTED;
+    const BYTES: usize = 36;
+
+    fn read(body: &[u8]) -> Option<Wanted> {
+        let (system, first) = body.split_first_chunk()?;
+        let first = u32::from_be_bytes(first.try_into().ok()?);
+        Some(Wanted { system: *system, first: (first != Wanted::NOW).then_some(first) })
+    }
+
+    fn system(&self) -> &Id {
+        &self.system
+    }
+
+    fn node(&self) -> Option<u32> {
+        None
     }
 }
 
@@ -115,15 +180,15 @@ pub async fn write<S: AsyncWrite + Unpin + ?Sized>(to: &mut S, kind: u8, parts: 
     within(MOST_MESSAGE, "the other end does not read", whole).await
 }
 
-/// Reads the hello of a connection, of the system with this id.
-pub async fn read_hello<S: AsyncRead + Unpin + ?Sized>(from: &mut S, system: &Id) -> io::Result<Hello> {
+/// Reads the greeting of a connection, of the system with this id.
+pub async fn read_greeting<G: Greeting, S: AsyncRead + Unpin + ?Sized>(from: &mut S, system: &Id) -> io::Result<G> {
     let wrong = |what: &str| io::Error::new(ErrorKind::InvalidData, what.to_string());
-    let message = read(from, Hello::BYTES).await?.ok_or_else(|| wrong("no hello"))?;
-    let hello = Hello::read(&message.body).filter(|_| message.kind == HELLO).ok_or_else(|| wrong("no hello"))?;
-    if hello.system == *system {
-        Ok(hello)
+    let message = read(from, G::BYTES).await?.ok_or_else(|| wrong("no greeting"))?;
+    let greeting = G::read(&message.body).filter(|_| message.kind == G::KIND).ok_or_else(|| wrong("no greeting"))?;
+    if greeting.system() == system {
+        Ok(greeting)
     } else {
-        Err(wrong("a hello of another system"))
+        Err(wrong("a greeting of another system"))
     }
 }
 
@@ -343,8 +408,22 @@ mod tests {
         assert_eq!(Hello::read(&[0; 34]), None);
         let mut bytes = vec![];
         now(write(&mut bytes, HELLO, &[&hello.to_bytes()])).expect("written");
-        assert_eq!(now(read_hello(&mut &bytes[..], &[7; 32])).expect("a hello"), hello);
-        assert!(now(read_hello(&mut &bytes[..], &[8; 32])).is_err());
+        assert_eq!(now(read_greeting::<Hello, _>(&mut &bytes[..], &[7; 32])).expect("a hello"), hello);
+        assert!(now(read_greeting::<Hello, _>(&mut &bytes[..], &[8; 32])).is_err());
+    }
+
+    #[test]
+    fn a_device_says_what_it_wants() {
+        let body = |first: u32| [&[7; 32][..], &first.to_be_bytes()].concat();
+        for (first, wanted) in [(0, Some(0)), (7, Some(7)), (u32::MAX - 1, Some(u32::MAX - 1)), (u32::MAX, None)] {
+            assert_eq!(Wanted::read(&body(first)), Some(Wanted { system: [7; 32], first: wanted }));
+        }
+        assert_eq!((Wanted::read(&body(7)[..35]), Wanted::read(&[0; 37])), (None, None));
+        let mut bytes = vec![];
+        now(write(&mut bytes, DECISIONS_WANTED, &[&body(7)])).expect("written");
+        assert!(now(read_greeting::<Wanted, _>(&mut &bytes[..], &[7; 32])).is_ok());
+        assert!(now(read_greeting::<Wanted, _>(&mut &bytes[..], &[8; 32])).is_err());
+        assert!(now(read_greeting::<Hello, _>(&mut &bytes[..], &[7; 32])).is_err(), "no node's");
     }
 
     #[test]

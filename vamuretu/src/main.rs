@@ -127,8 +127,14 @@ enum Command {
         /// The number of a run in which this node proposes
         run: Option<u32>,
     },
-    /// Writes the decisions of a running node from now on, as JSON
-    Decisions(OfNode),
+    /// Writes the decisions of a running node, as JSON: from now on, or those that are kept from a run on
+    Decisions {
+        #[command(flatten)]
+        of: OfNode,
+        /// The first run
+        #[arg(long, value_name = "RUN")]
+        from: Option<u32>,
+    },
     /// Tells a running node to begin no run, and waits until it has ended
     Drain(OfNode),
     /// Has a running node believe its clock, which was set ahead, and for which its runs wait
@@ -222,7 +228,9 @@ fn perform(command: &Command) -> Result<bool, End> {
             let request = json!({ "ask": "propose", "value": { "name": name }, "run": run });
             node::local::tell(&of.read()?, &request)
         }
-        Command::Decisions(of) => node::local::tell_all(&of.read()?, &json!({ "ask": "decisions" })),
+        Command::Decisions { of, from } => {
+            node::local::tell_all(&of.read()?, &json!({ "ask": "decisions", "from": from }))
+        }
         Command::Drain(of) => node::local::tell_all(&of.read()?, &json!({ "ask": "drain" })),
         Command::AcceptStep(of) => accept_step(of),
         Command::Log { of, run } => node::spool::write_log(&of.read()?, *run),

@@ -45,6 +45,11 @@ impl Run {
         Expected::Admitted { admission: &self.admission, system: Some(&self.system) }
     }
 
+    /// The admission of its set.
+    pub fn admission(&self) -> Arc<[u8]> {
+        self.admission.clone()
+    }
+
     /// The general that a node is.
     pub fn general_of(&self, node: u32) -> Option<u32> {
         self.nodes.iter().position(|&it| it == node).and_then(|place| u32::try_from(place).ok())

@@ -22,7 +22,7 @@ use crate::archive::files::{self, Names};
 use crate::archive::read::{self, Question, Range};
 use crate::archive::room::Rooms;
 use crate::config::{self, NodeFile, WatchFile};
-use crate::frames::{self, Hello};
+use crate::frames::{self, Greeting, Hello, Wanted};
 use crate::node::counts::Counts;
 use crate::node::spool::Spool;
 use crate::node::{self, local, ship};
@@ -38,6 +38,7 @@ pub const READERS: &[Reader] = &[
         read: messages,
     },
     Reader { name: "hellos", inputs: || vec![hello_message(), [5; 33].into()], read: hellos },
+    Reader { name: "greetings of devices", inputs: || vec![device_message()], read: devices },
     Reader { name: "heads of frames", inputs: || vec![[b"SMF1", &[3; 37][..], &[0; 9]].concat()], read: heads },
     Reader { name: "lines of applications", inputs: lines, read: line },
     Reader {
@@ -140,10 +141,20 @@ fn messages(bytes: &[u8]) {
 
 fn hellos(bytes: &[u8]) {
     let mut rest = bytes;
-    let _ = wait(frames::read_hello(&mut rest, &[5; 32]));
+    let _ = wait(frames::read_greeting::<Hello, _>(&mut rest, &[5; 32]));
     if let Some(hello) = Hello::read(bytes) {
         assert_eq!(hello.to_bytes(), bytes);
     }
+}
+
+fn device_message() -> Vec<u8> {
+    messages_of(&[(frames::DECISIONS_WANTED, &[&[5; 32][..], &[0, 0, 0, 7]].concat())])
+}
+
+fn devices(bytes: &[u8]) {
+    let mut rest = bytes;
+    let wanted = wait(frames::read_greeting::<Wanted, _>(&mut rest, &[5; 32]));
+    assert!(wanted.map_or(true, |it| it.first != Some(u32::MAX)));
 }
 
 fn heads(bytes: &[u8]) {

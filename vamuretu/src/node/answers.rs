@@ -27,7 +27,7 @@ pub enum Line {
         /// The value that was proposed for this run before, and is not any more.
         replaced: Option<Value>,
     },
-    /// The answer to `decisions`, always true: lines `decided`, `lost` and `missed_decisions` follow.
+    /// The answer to `decisions`, always true: lines `decided`, `lost`, `missed_decisions` and `missed_runs` follow.
     Listening {
         /// True.
         listening: bool,
@@ -67,6 +67,11 @@ pub enum Line {
         /// How many lines.
         missed_decisions: u64,
     },
+    /// Runs that are over, and whose decisions the spool has not, behind `from` of a request: the node made none, or none is kept.
+    MissedRuns {
+        /// The runs.
+        missed_runs: Gone,
+    },
 }
 
 impl fmt::Display for Line {
@@ -104,6 +109,17 @@ pub struct Decided {
     pub log_stored: bool,
     /// The receipt of this node, in base64.
     pub receipt: String,
+}
+
+/// Runs whose decisions are not kept.
+#[derive(Debug, Clone, Serialize)]
+pub struct Gone {
+    /// The id of the system, 64 hexadecimal digits.
+    pub system: String,
+    /// The first run.
+    pub first: u32,
+    /// The last run.
+    pub last: u32,
 }
 
 /// Proposals that are lost.
@@ -147,6 +163,9 @@ pub struct Status {
     pub clock: Clock,
     /// Its neighbours.
     pub peers: Vec<Peer>,
+    /// What it hands out to devices, if there is `[devices]`.
+    #[serde(skip_serializing_if = "Option::is_none")]
+    pub devices: Option<Devices>,
     /// The logs that it keeps.
     pub spool: Spool,
     /// The status of the node of the next system, until that is the present one.
@@ -197,6 +216,17 @@ pub struct Peer {
     pub number: u32,
     /// Whether it is connected.
     pub connected: bool,
+}
+
+/// What a node hands out to devices.
+#[derive(Debug, Clone, Serialize)]
+pub struct Devices {
+    /// Devices that are connected.
+    pub connected: i64,
+    /// Decisions that receipts of m + 1 nodes show.
+    pub shown: u64,
+    /// Runs of which no decision was shown in time.
+    pub unshown: u64,
 }
 
 /// The logs that a node keeps.
@@ -308,6 +338,7 @@ mod tests {
                 steps: 0,
             },
             peers: vec![Peer { number: 0, connected: true }],
+            devices: waits_for.map(|_| Devices { connected: 1, shown: 2, unshown: 0 }),
             spool: Spool { logs: 1, bytes: 1, waiting: 1, refused: 0, unstored: 0, stuck: vec![stuck] },
             next: None,
         }
@@ -331,6 +362,7 @@ mod tests {
             Line::Decided { decided: Decided { proposer: None, ..decided(None) }.into() },
             Line::Lost { lost: Lost { system: id(), proposals: proposals(), why: "passed".into() } },
             Line::Missed { missed_decisions: u64::MAX },
+            Line::MissedRuns { missed_runs: Gone { system: id(), first: 3, last: 7 } },
         ];
         for line in lines {
             let mut told: Json = serde_json::from_str(&line.to_string()).expect("JSON");

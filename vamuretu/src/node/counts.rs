@@ -24,6 +24,10 @@ pub struct Counts {
     pub unsent: IntCounter,
     pub worthless: IntCounter,
     pub local_refused: IntCounterVec,
+    pub receipts_refused: IntCounterVec,
+    pub shown: IntCounter,
+    pub unshown: IntCounter,
+    pub devices: IntGauge,
     pub connected: IntGaugeVec,
     pub under_way: IntGauge,
     pub newest: IntGauge,
@@ -47,6 +51,7 @@ pub struct Counts {
     pub spool_unstored: IntGauge,
     pub spool_late: IntCounter,
     pub spool_lost: IntCounter,
+    pub unkept: IntCounter,
 }
 
 /// Seconds from a sixty-fourth of a length to sixteen times it.
@@ -117,6 +122,14 @@ impl Counts {
             worthless: make
                 .counter("decisions_worthless_total", "Decisions that are worth nothing alone: `holds` is false."),
             local_refused: make.counters("local_refused_total", LOCAL_REFUSED, "reason"),
+            receipts_refused: make.counters(
+                "receipts_refused_total",
+                "Receipts that were dropped: of no run under way, not of the neighbour, or ones that do not hold.",
+                "peer",
+            ),
+            shown: make.counter("decisions_shown_total", "Decisions that receipts of m + 1 nodes show, for devices."),
+            unshown: make.counter("decisions_unshown_total", "Runs of which no decision was shown in time."),
+            devices: make.gauge("devices_connected", "Devices that are connected."),
             connected: make.gauges("connected", "1 while the neighbour is connected.", "peer"),
             under_way: make.gauge("runs_under_way", "Runs that are under way."),
             newest: make.gauge("newest_run", "The number of the newest run that was begun, or -1."),
@@ -142,6 +155,8 @@ impl Counts {
             spool_late: make.counter("spool_late_total", "Logs that the disk took after their decision was told."),
             spool_lost: make
                 .counter("spool_lost_total", "Logs that are lost: the disk did not take them for too long."),
+            unkept: make
+                .counter("decisions_unkept_total", "Decisions that the spool did not take, to be asked for later."),
             registry: make.0,
         };
         counts.registry.register(Box::new(crate::lines::dropped())).expect("a name that is new");
@@ -163,7 +178,9 @@ mod tests {
     #[test]
     fn each_metric_is_on_the_page() {
         let counts = Counts::new(250);
-        [&counts.dropped, &counts.barred].iter().for_each(|of| of.with_label_values(&["0"]).inc());
+        [&counts.dropped, &counts.barred, &counts.receipts_refused]
+            .iter()
+            .for_each(|of| of.with_label_values(&["0"]).inc());
         counts.connected.with_label_values(&["0"]).set(1);
         crate::metrics::tests::on_the_page("### Metrics of a node", &counts.registry);
     }

@@ -3,13 +3,13 @@
 //!
 //! A value is an object, `{"name": ..}` for an order of the configuration's table: other members may come for other values.
 
-use std::collections::BTreeMap;
+use std::collections::{BTreeMap, BTreeSet, VecDeque};
 use std::io::{self, BufRead, BufReader, Lines, Write};
 use std::os::unix::fs::{FileTypeExt, PermissionsExt};
 use std::os::unix::net::UnixStream as Asking;
 use std::path::Path;
 use std::sync::atomic::Ordering;
-use std::sync::Arc;
+use std::sync::{Arc, Mutex, MutexGuard};
 use std::time::Duration;
 
 use serde::{Deserialize, Serialize};
@@ -21,13 +21,14 @@ use tokio::sync::broadcast::{error::RecvError, Receiver};
 use tokio::sync::{OwnedSemaphorePermit, Semaphore};
 use tokio::time::{timeout, timeout_at, Instant};
 
-use super::answers::{self, Decided, Line, Lost, Proposal, Status};
+use super::answers::{self, Decided, Gone, Line, Lost, Proposal, Status};
 use super::counts::Counts;
 use super::nodes::Nodes;
 use super::runs::Outcome;
-use super::{worth, Shared};
+use super::spool::{Kept, Spool};
+use super::{worth, Decisions, Shared};
 use crate::clock::Look;
-use crate::config::NodeFile;
+use crate::config::{Id, NodeFile};
 use crate::doors::{Place, Places};
 use crate::systems::Run;
 use crate::End;
@@ -41,6 +42,8 @@ const MOST_WRITING: Duration = Duration::from_secs(5);
 const MOST_LISTENERS: usize = 32;
 /// How many others there may be: for one more the oldest is closed.
 const MOST_ASKERS: usize = 32;
+/// How many of the newest decisions stay in memory, for those who ask for older ones.
+const MOST_NEWEST: usize = 16;
 /// The descriptors of this door.
 pub const DESCRIPTORS: usize = MOST_LISTENERS + MOST_ASKERS + 1;
 
@@ -64,7 +67,10 @@ pub enum Request {
         run: Option<u32>,
     },
     /// The decisions from now on, a line each.
-    Decisions {},
+    Decisions {
+        /// A run of the present system, from which on the decisions come first that the spool has.
+        from: Option<u32>,
+    },
     /// What the node says of itself.
     Status {},
     /// That the node begins no run, and ends.
@@ -105,6 +111,72 @@ pub fn lost_line(file: &NodeFile, lost: &BTreeMap<u32, u8>, why: &str) -> Arc<st
     let proposals = lost.iter().map(|(&run, &order)| Proposal { run, value: value_of(file, order.into()) });
     let (system, proposals) = (hex::encode(file.system.id), proposals.collect());
     Line::Lost { lost: Lost { system, proposals, why: why.into() } }.to_string().into()
+}
+
+/// The line of runs whose decisions are not kept.
+fn missed_line(system: &Id, first: u32, last: u32) -> Arc<str> {
+    Line::MissedRuns { missed_runs: Gone { system: hex::encode(system), first, last } }.to_string().into()
+}
+
+/// The lines of the decisions of a system, as applications hear them.
+pub struct Telling {
+    system: Id,
+    /// What takes lines of all systems.
+    hear: Decisions,
+    newest: Mutex<Newest>,
+}
+
+#[derive(Default)]
+struct Newest {
+    /// The lines of the newest decisions, which the spool may not have yet.
+    lines: BTreeMap<u32, Arc<str>>,
+    /// The runs that have begun, and have no decision yet.
+    under_way: BTreeSet<u32>,
+}
+
+impl Telling {
+    pub fn new(system: Id, hear: Decisions) -> Telling {
+        Telling { system, hear, newest: Mutex::default() }
+    }
+
+    fn newest(&self) -> MutexGuard<'_, Newest> {
+        self.newest.lock().unwrap_or_else(|told| told.into_inner())
+    }
+
+    /// Notes that a run is under way, or that it is over.
+    pub fn note(&self, run: u32, is_under_way: bool) {
+        let under_way = &mut self.newest().under_way;
+        _ = if is_under_way { under_way.insert(run) } else { under_way.remove(&run) };
+    }
+
+    pub fn tell(&self, line: Arc<str>) {
+        let _ = self.hear.send(line);
+    }
+
+    /// Tells the line of the decision of a run.
+    pub fn tell_decided(&self, run: u32, line: Arc<str>) {
+        let mut newest = self.newest();
+        newest.under_way.remove(&run);
+        newest.lines.insert(run, line.clone());
+        if newest.lines.len() > MOST_NEWEST {
+            newest.lines.pop_first();
+        }
+        // Who listens from here on gets it by the one way or by the other.
+        self.tell(line);
+    }
+
+    /// The newest decisions from a run on, and what has all lines behind them.
+    fn since(&self, run: u32) -> (Vec<(u32, Arc<str>)>, Receiver<Arc<str>>) {
+        let newest = self.newest();
+        let lines = newest.lines.range(run..).map(|(&run, line)| (run, line.clone()));
+        (lines.collect(), self.hear.subscribe())
+    }
+
+    /// The line of the runs from one on and below another, which are over and not kept, if there are any.
+    fn missed(&self, first: u32, end: u32) -> Option<Arc<str>> {
+        let end = self.newest().under_way.first().map_or(end, |&run| run.min(end));
+        (first < end).then(|| missed_line(&self.system, first, end - 1))
+    }
 }
 
 /// Takes away a socket that nobody serves. Nothing else that is there is touched.
@@ -154,21 +226,59 @@ pub async fn serve(nodes: Arc<Nodes>, listener: UnixListener) {
 }
 
 /// The next decision, if this application asked for decisions.
-async fn next_decision(listening: &mut Option<Listening>) -> Arc<str> {
+async fn next_decision(listening: &mut Option<(Arc<Shared>, Listening)>) -> Arc<str> {
     match listening {
-        Some(listening) => match listening.decisions.recv().await {
-            Ok(line) => line,
-            Err(RecvError::Lagged(count)) => Line::Missed { missed_decisions: count }.to_string().into(),
-            Err(RecvError::Closed) => std::future::pending().await,
-        },
+        Some((of, listening)) => listening.next(&of.spool, &of.telling).await,
         None => std::future::pending().await,
     }
 }
 
 /// What an application has that listens to decisions: its place, too.
 struct Listening {
+    /// The run that it has come to, while it gets kept decisions.
+    from: Option<u32>,
+    ready: VecDeque<Arc<str>>,
     decisions: Receiver<Arc<str>>,
     _place: OwnedSemaphorePermit,
+}
+
+impl Listening {
+    fn new(from: Option<u32>, telling: &Telling, _place: OwnedSemaphorePermit) -> Listening {
+        Listening { from, ready: VecDeque::new(), decisions: telling.hear.subscribe(), _place }
+    }
+
+    /// The next line. If this is dropped, none is lost.
+    async fn next(&mut self, spool: &Spool, telling: &Telling) -> Arc<str> {
+        loop {
+            if let Some(line) = self.ready.pop_front() {
+                return line;
+            }
+            let Some(from) = self.from else { break };
+            match spool.next_kept(Kept::Line, from) {
+                Some(run) => {
+                    let line = spool.read_line(run).await.ok().map(Arc::from);
+                    self.put(telling, run, line.unwrap_or_else(|| missed_line(&telling.system, run, run)));
+                }
+                None => {
+                    let (lines, decisions) = telling.since(from);
+                    lines.into_iter().for_each(|(run, line)| self.put(telling, run, line));
+                    (self.from, self.decisions) = (None, decisions);
+                }
+            }
+        }
+        match self.decisions.recv().await {
+            Ok(line) => line,
+            Err(RecvError::Lagged(count)) => Line::Missed { missed_decisions: count }.to_string().into(),
+            Err(RecvError::Closed) => std::future::pending().await,
+        }
+    }
+
+    /// Has the line of a run follow, behind one of those that are missing in front of it.
+    fn put(&mut self, telling: &Telling, run: u32, line: Arc<str>) {
+        self.ready.extend(self.from.and_then(|from| telling.missed(from, run)));
+        self.ready.push_back(line);
+        self.from = Some(run.saturating_add(1));
+    }
 }
 
 /// The requests of an application, line by line.
@@ -224,7 +334,8 @@ struct Client {
     listeners: Arc<Semaphore>,
     requests: Requests,
     to: OwnedWriteHalf,
-    listening: Option<Listening>,
+    /// What it hears, and the node whose kept decisions it asked for.
+    listening: Option<(Arc<Shared>, Listening)>,
 }
 
 impl Client {
@@ -287,7 +398,7 @@ impl Client {
                 Ok(proposed) => proposed,
                 Err(why) => Line::Refused { refused: why },
             },
-            Ok(Request::Decisions {}) => self.listen(),
+            Ok(Request::Decisions { from }) => self.listen(from),
             Ok(Request::Status {}) => Line::Status { status: status_of_all(&self.nodes).into() },
             Ok(Request::Drain {}) => {
                 self.nodes.drain();
@@ -299,14 +410,16 @@ impl Client {
     }
 
     /// Begins to listen to decisions, if there is a place.
-    fn listen(&mut self) -> Line {
+    fn listen(&mut self, from: Option<u32>) -> Line {
         let place = match self.listening.take() {
-            Some(listening) => Ok(listening._place),
+            Some((_, listening)) => Ok(listening._place),
             None => self.listeners.clone().try_acquire_owned(),
         };
         match place {
-            Ok(_place) => {
-                self.listening = Some(Listening { decisions: self.nodes.now().decisions.subscribe(), _place });
+            Ok(place) => {
+                let of = self.nodes.now().clone();
+                let listening = Listening::new(from, &of.telling, place);
+                self.listening = Some((of, listening));
                 Line::Listening { listening: true }
             }
             Err(_) => {
@@ -390,6 +503,11 @@ fn status_of_all(nodes: &Nodes) -> Status {
     Status { next, ..status(nodes.now()) }
 }
 
+/// What is known of devices.
+fn devices_told(counts: &Counts) -> answers::Devices {
+    answers::Devices { connected: counts.devices.get(), shown: counts.shown.get(), unshown: counts.unshown.get() }
+}
+
 /// What a node says of itself.
 fn status(shared: &Shared) -> Status {
     let counts = &shared.counts;
@@ -408,6 +526,7 @@ fn status(shared: &Shared) -> Status {
         waits_for: shared.waits_for().map(|it| it.to_string()),
         clock: clock_told(&shared.guard.look()),
         peers: peers.collect(),
+        devices: shared.gather.as_ref().map(|_| devices_told(counts)),
         spool: spool_told(shared),
         next: None,
     }
@@ -455,6 +574,7 @@ mod tests {
     use std::os::unix::net::UnixListener as Listener;
 
     use super::*;
+    use crate::node::spool::tests::{end, settle, spool};
 
     #[test]
     fn a_socket_takes_no_place_but_that_of_one_that_nobody_serves() {
@@ -481,6 +601,7 @@ mod tests {
             assert!(!takes(&format!("{{\"ask\": \"{ask}\", \"more\": 1}}")), "{ask}");
         }
         assert!(takes(r#"{"ask": "propose", "value": {"name": "close"}}"#));
+        assert!(takes(r#"{"ask": "decisions", "from": 7}"#) && !takes(r#"{"ask": "decisions", "from": -7}"#));
         for more in [r#""run": 7"#, r#""run": null"#] {
             assert!(takes(&format!(r#"{{"ask": "propose", "value": {{"name": "close"}}, {more}}}"#)), "{more}");
         }
@@ -488,6 +609,48 @@ mod tests {
             assert!(!takes(&format!(r#"{{"ask": "propose", "value": {{"name": "close"}}, {wrong}}}"#)), "{wrong}");
         }
         assert!(!takes(r#"{"ask": "propose", "value": {"name": "close", "more": 1}}"#));
+    }
+
+    fn telling() -> Telling {
+        Telling::new([7; 32], tokio::sync::broadcast::channel(9).0)
+    }
+
+    fn decided(run: u32) -> Arc<str> {
+        format!("{{\"run\":{run}}}").into()
+    }
+
+    /// The next lines of an application that asked for decisions from a run on.
+    async fn lines_of(listening: &mut Listening, spool: &Spool, telling: &Telling, count: usize) -> Vec<String> {
+        let mut lines = vec![];
+        for _ in 0..count {
+            lines.push(timeout(LIMIT * 9, listening.next(spool, telling)).await.expect("a line").to_string());
+        }
+        lines
+    }
+
+    #[tokio::test]
+    async fn who_was_away_gets_what_it_missed() {
+        let (spool, telling, places) = (spool("lines", 0, 99, 1 << 20), telling(), Arc::new(Semaphore::new(9)));
+        let from = |run| Listening::new(run, &telling, places.clone().try_acquire_owned().expect("a place"));
+        // Runs 3 and 4 are kept, 5 is neither kept nor decided, 6 and 8 are in memory alone, and 7 is under way.
+        (3..5).for_each(|run| spool.keep_line(run, &decided(run)));
+        settle(&spool);
+        telling.note(7, true);
+        [3, 4, 6, 8].iter().for_each(|&run| telling.tell_decided(run, decided(run)));
+        let mut all = from(Some(1));
+        let missed = |first, last| missed_line(&[7; 32], first, last).to_string();
+        let wanted =
+            [missed(1, 2), decided(3).to_string(), decided(4).to_string(), missed(5, 5), decided(6).to_string()];
+        assert_eq!(lines_of(&mut all, &spool, &telling, 5).await, wanted);
+        assert_eq!(lines_of(&mut all, &spool, &telling, 1).await, [decided(8).to_string()], "7 is still to come");
+        let (mut now, mut ahead) = (from(None), from(Some(50)));
+        assert!(timeout(LIMIT, ahead.next(&spool, &telling)).await.is_err(), "run 50 is to come");
+        telling.tell_decided(7, decided(7));
+        for it in [&mut all, &mut now, &mut ahead] {
+            assert_eq!(lines_of(it, &spool, &telling, 1).await, [decided(7).to_string()]);
+        }
+        assert_eq!(lines_of(&mut from(Some(4)), &spool, &telling, 1).await, [decided(4).to_string()]);
+        end(spool);
     }
 
     const LIMIT: Duration = Duration::from_millis(200);

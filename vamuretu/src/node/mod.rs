@@ -3,6 +3,8 @@
 mod ahead;
 mod answers;
 pub mod counts;
+mod devices;
+mod gather;
 mod inbox;
 pub mod keys;
 pub mod life;
@@ -31,11 +33,13 @@ use vamuretu::{NextRun, Node, NodeFault};
 
 use self::ahead::Ahead;
 use self::counts::Counts;
+use self::gather::{Gather, Opened};
 use self::inbox::{Inbox, Inboxes};
 use self::keys::Keeper;
+use self::local::Telling;
 use self::nodes::Nodes;
 use self::peers::Links;
-use self::runs::Play;
+use self::runs::{Outcome, Play};
 use self::spool::Spool;
 use self::waits::{Passing, Waits};
 use crate::clock::{self, Guard, Look};
@@ -129,7 +133,9 @@ pub struct Shared {
     pub spool: Spool,
     pub longest_frame: usize,
     proposals: Mutex<Proposals>,
-    pub decisions: Decisions,
+    pub telling: Telling,
+    /// The receipts that show decisions, if there is a door for devices.
+    pub gather: Option<Gather>,
     pub guard: Arc<Guard>,
     waits_for: Mutex<Option<Waits>>,
     pub draining: AtomicBool,
@@ -139,7 +145,8 @@ pub struct Shared {
 }
 
 impl Shared {
-    fn new(file: &NodeFile, systems: Systems, first: &Run, decisions: &Decisions) -> Result<Shared, End> {
+    /// What is there before run `next` or a later one begins.
+    fn new(file: &NodeFile, systems: Systems, first: &Run, next: u32, decisions: &Decisions) -> Result<Shared, End> {
         let counts = Counts::new(file.clock.round_ms);
         let longest_frame = first.header.longest_frame();
         let rounds = first.header.rounds();
@@ -156,7 +163,8 @@ impl Shared {
             inboxes: Inboxes::default(),
             longest_frame,
             proposals: Mutex::default(),
-            decisions: decisions.clone(),
+            telling: Telling::new(file.system.id, decisions.clone()),
+            gather: file.devices.as_ref().map(|_| Gather::new(gather::Look::BY_LIBRARY, next)),
             guard: Arc::new(Guard::new(file.clock)),
             waits_for: Mutex::default(),
             draining: AtomicBool::new(false),
@@ -168,6 +176,32 @@ impl Shared {
     /// Counts a frame that was refused.
     pub fn refuse(&self, fault: NodeFault) {
         self.counts.refused.with_label_values(&[&format!("{fault:?}")]).inc();
+    }
+
+    /// Keeps a receipt that comes from a node, if there is a door for devices.
+    pub fn offer(&self, node: u32, run: u32, receipt: &[u8]) -> Result<(), gather::Refused> {
+        self.gather.as_ref().map_or(Ok(()), |gather| gather.offer(node, run, receipt))
+    }
+
+    /// Counts a receipt that was refused.
+    pub fn refuse_receipt(&self, node: u32) {
+        self.counts.receipts_refused.with_label_values(&[&node.to_string()]).inc();
+    }
+
+    /// Takes receipts of a run, until a period after its end.
+    fn expect_receipts(&self, run: &Run, begins: Instant) {
+        let Some(gather) = &self.gather else { return };
+        let rounds = Duration::from_millis(self.file.clock.round_ms.into()) * run.header.rounds() as u32;
+        gather.open(Opened::from(run), begins + rounds + self.file.clock.period());
+    }
+
+    /// Tells the decision of a run: applications its line, and neighbours and devices the receipt.
+    fn tell_decided(&self, run: &Run, outcome: &Outcome, is_stored: bool) {
+        let line = local::decision_line(&self.file, run, outcome, is_stored);
+        self.telling.tell_decided(run.number, line.clone());
+        self.links.hand_on(run.number, &outcome.receipt);
+        let _ = self.offer(self.file.node.number, run.number, &outcome.receipt);
+        self.spool.keep_line(run.number, &line);
     }
 
     /// Notes that the node is at work, which the system's manager is told.
@@ -233,7 +267,7 @@ impl Shared {
         }
         self.counts.proposals_lost.inc_by(lost.len() as u64);
         tracing::warn!(runs = ?lost.keys().take(MOST_NAMED).collect::<Vec<_>>(), count = lost.len(), why, "proposals are lost");
-        let _ = self.decisions.send(local::lost_line(&self.file, lost, why));
+        self.telling.tell(local::lost_line(&self.file, lost, why));
     }
 
     /// Takes away the proposals for runs below this one, and tells that they are lost.
@@ -302,6 +336,7 @@ impl Scheduler {
             let missed = self.passing.pass(opens_ms, self.keeper.mark(), shared.systems.runs(), &shared.file.clock);
             shared.counts.missed.inc_by(missed.into());
             shared.lose_below(self.passing.next(), PASSED);
+            shared.gather.iter().for_each(|gather| gather.pass(self.passing.next()));
         }
         let all = shared.counts.missed.get();
         if let Some(runs) = self.passing.alarm(all, Instant::now()) {
@@ -375,6 +410,7 @@ impl Scheduler {
         let own =
             run.general_of(shared.file.node.number).ok_or_else(|| End::failed("this node is none of the run's"))?;
         let inbox = shared.inboxes.open(Inbox::new(&run, own));
+        shared.expect_receipts(&run, begins);
         let keys = match self.keeper.begin(number, run.set, shared.systems.version()) {
             Ok(keys) => keys,
             Err(told) => {
@@ -393,8 +429,10 @@ impl Scheduler {
         if let Some(left) = self.life.alarm(shared.systems.runs(), number) {
             tracing::error!(alarm = "life", run = number, left, "few runs are left: the next system has to be ready");
         }
+        shared.telling.note(number, true);
         let play = move || {
             if !play(&shared, &run, node, &inbox, begins) {
+                shared.telling.note(number, false);
                 let lost = proposed.into_iter().map(|order| (number, order)).collect();
                 shared.tell_lost(&lost, "the run ended without a decision of this node");
             }
@@ -432,7 +470,7 @@ fn play(shared: &Shared, run: &Run, node: Node, inbox: &Inbox, begins: Instant) 
             tracing::info!(
                 run = run.number, order = outcome.order, holds, lacked, unsent, late = ?late, stored = is_stored, "decided"
             );
-            let _ = shared.decisions.send(local::decision_line(&shared.file, run, &outcome, is_stored));
+            shared.tell_decided(run, &outcome, is_stored);
             play.linger();
         }
         Err(told) => {
@@ -481,21 +519,37 @@ fn runtime() -> Result<Runtime, End> {
     made.map_err(|told| End::unusable("a runtime", &told))
 }
 
+/// The doors to the network.
+struct Doors {
+    peers: Arc<Door>,
+    devices: Option<Arc<Door>>,
+}
+
+impl Doors {
+    fn new(file: &NodeFile, transport: &Transport) -> Result<Doors, End> {
+        let devices = file.devices.as_ref().map(|of| devices::door(file, of, transport)).transpose()?;
+        Ok(Doors { peers: peers::door(file, transport)?, devices })
+    }
+}
+
 /// What a node listens at.
 struct Listeners {
     peers: TcpListener,
+    devices: Option<TcpListener>,
     metrics: Option<TcpListener>,
 }
 
 impl Listeners {
     /// Listens, if all connections that there may be at these doors leave the reserve of descriptors.
-    fn open(runtime: &Runtime, file: &NodeFile, door: &Door) -> Result<Listeners, End> {
+    fn open(runtime: &Runtime, file: &NodeFile, doors: &Doors) -> Result<Listeners, End> {
         let own = file.neighbours().count() + file.watchers.len();
         let of_metrics = file.metrics.as_ref().map_or(0, |_| metrics::DESCRIPTORS);
-        descriptors::keep_reserve(door.descriptors() + own + of_metrics + local::DESCRIPTORS)?;
+        let of_doors = doors.peers.descriptors() + doors.devices.as_ref().map_or(0, |door| door.descriptors());
+        descriptors::keep_reserve(of_doors + own + of_metrics + local::DESCRIPTORS)?;
         let _inside = runtime.enter();
         Ok(Listeners {
             peers: listen(runtime, file.node.listen)?,
+            devices: file.devices.as_ref().map(|of| listen(runtime, of.listen)).transpose()?,
             metrics: file.metrics.as_ref().map(|of| listen(runtime, of.address)).transpose()?,
         })
     }
@@ -506,10 +560,13 @@ fn start(runtime: &Runtime, shared: &Arc<Shared>) -> Result<(), End> {
     let file = &shared.file;
     let transport = Transport::new(file.key.as_ref())?;
     file.check_pin(transport.pin())?;
-    let door = peers::door(file, &transport)?;
-    let listeners = Listeners::open(runtime, file, &door)?;
+    let doors = Doors::new(file, &transport)?;
+    let listeners = Listeners::open(runtime, file, &doors)?;
     let _inside = runtime.enter();
-    tokio::spawn(peers::take(shared.clone(), door, listeners.peers));
+    tokio::spawn(peers::take(shared.clone(), doors.peers, listeners.peers));
+    if let (Some(door), Some(listener)) = (doors.devices, listeners.devices) {
+        tokio::spawn(devices::take(shared.clone(), door, listener));
+    }
     for link in shared.links.all().filter(|link| link.peer.number < file.node.number) {
         tokio::spawn(peers::keep_connected(shared.clone(), transport.clone(), link.clone()));
     }
@@ -549,8 +606,10 @@ impl Started {
         let first = systems.run(0)?;
         check(file, &systems, &first)?;
         let keeper = Keeper::open(file)?;
-        let shared = Arc::new(Shared::new(file, systems, &first, decisions)?);
+        let next = keeper.mark().map_or(0, |mark| mark.saturating_add(1));
+        let shared = Arc::new(Shared::new(file, systems, &first, next, decisions)?);
         ahead::start(&shared)?;
+        gather::start(&shared)?;
         start(runtime, &shared)?;
         tracing::info!(node = file.node.number, system = %hex::encode(file.system.id), mark = ?keeper.mark(), "started");
         let (passing, prepared, under_way) = (Passing::default(), None, vec![]);

@@ -2,13 +2,15 @@
 
 use std::collections::BTreeMap;
 use std::io;
-use std::sync::atomic::{AtomicU64, Ordering};
+use std::sync::atomic::{AtomicBool, AtomicU64, Ordering};
 use std::sync::Arc;
 use std::time::{Duration, Instant};
 
+use tokio::io::{ReadHalf, WriteHalf};
 use tokio::net::TcpListener;
 use tokio::time::timeout;
 
+use super::gather::MOST_RECEIPT;
 use super::inbox::Refused;
 use super::Shared;
 use crate::config::{NodeFile, Peer};
@@ -26,11 +28,17 @@ const SILENT_PERIODS: u32 = 3;
 const PLACES: usize = 1;
 /// How often the lines of the connections with one neighbour are said.
 const SAID_EACH: Duration = Duration::from_secs(1);
+/// The bytes of the number of a run in front of a receipt, and of the receipts that wait for a neighbour.
+const NUMBER: usize = 4;
+const MOST_RECEIPTS: usize = 8 * (NUMBER + MOST_RECEIPT);
 
 /// What is there of a neighbour.
 pub struct Link {
     pub peer: Peer,
     queue: Queue,
+    /// The receipts that go to it, behind all frames, if it has said that it wants some.
+    receipts: Queue,
+    wants_receipts: AtomicBool,
     /// How often a connection began or ended. A run that sees another number sends its frames again.
     epoch: AtomicU64,
     said: Seldom,
@@ -40,7 +48,18 @@ impl Link {
     /// Notes that a connection has begun or ended.
     pub fn is_changed(&self) {
         self.queue.clear();
+        self.receipts.clear();
+        self.wants_receipts.store(false, Ordering::SeqCst);
         self.epoch.fetch_add(1, Ordering::SeqCst);
+    }
+
+    /// Takes what goes out next, with its kind: a frame before a receipt.
+    async fn next(&self) -> (u8, Arc<Outgoing>) {
+        tokio::select! {
+            biased;
+            frame = self.queue.pop() => (frames::FRAME, frame),
+            receipt = self.receipts.pop() => (frames::RECEIPT, receipt),
+        }
     }
 }
 
@@ -58,8 +77,14 @@ impl Links {
         dropped: prometheus::IntCounterVec,
     ) -> Links {
         let link = |peer: &Peer| {
-            let queue = Queue::new(most_bytes);
-            let made = Link { peer: peer.clone(), queue, epoch: AtomicU64::new(0), said: Seldom::new(SAID_EACH) };
+            let made = Link {
+                peer: peer.clone(),
+                queue: Queue::new(most_bytes),
+                receipts: Queue::new(MOST_RECEIPTS),
+                wants_receipts: AtomicBool::new(false),
+                epoch: AtomicU64::new(0),
+                said: Seldom::new(SAID_EACH),
+            };
             (peer.number, Arc::new(made))
         };
         Links { links: peers.map(link).collect(), dropped }
@@ -70,6 +95,14 @@ impl Links {
         let dropped = self.links.get(&node).map_or(0, |link| link.queue.push(frame));
         if dropped > 0 {
             self.dropped.with_label_values(&[&node.to_string()]).inc_by(dropped as u64);
+        }
+    }
+
+    /// Hands the receipt of a run on to each neighbour that wants receipts. Nobody waits.
+    pub fn hand_on(&self, run: u32, receipt: &[u8]) {
+        let message: Arc<[u8]> = [&run.to_be_bytes(), receipt].concat().into();
+        for link in self.all().filter(|link| link.wants_receipts.load(Ordering::SeqCst)) {
+            link.receipts.push(Outgoing::new(message.clone()));
         }
     }
 
@@ -87,7 +120,7 @@ pub fn door(file: &NodeFile, transport: &Transport) -> Result<Arc<Door>, End> {
     let greater = file.neighbours().filter(|peer| peer.number > file.node.number);
     let known = greater.map(|peer| {
         let address = Some(peer.address.ip().to_canonical());
-        Known { node: peer.number, address, keys: peer.keys.clone() }
+        Known { number: peer.number, address, keys: peer.keys.clone() }
     });
     let most_unanswered = frames::most_unanswered(file.clock.round_ms);
     Door::new(file.system.id, known.collect(), transport, most_unanswered, PLACES)
@@ -101,7 +134,7 @@ pub async fn take(shared: Arc<Shared>, door: Arc<Door>, listener: TcpListener) {
 
 /// Says who is here, and serves the connection.
 async fn greet_back(shared: Arc<Shared>, mut shown: Shown) -> io::Result<()> {
-    let Some(link) = shared.links.links.get(&shown.node) else { return Ok(()) };
+    let Some(link) = shared.links.links.get(&shown.number) else { return Ok(()) };
     frames::write(&mut shown.stream, frames::HELLO, &[&own_hello(&shared).to_bytes()]).await?;
     serve(&shared, link, shown.stream).await;
     Ok(())
@@ -136,7 +169,7 @@ async fn greet(shared: &Shared, transport: &Transport, link: &Link) -> io::Resul
     let most_unanswered = frames::most_unanswered(shared.file.clock.round_ms);
     let mut stream = transport.connect(link.peer.address, &link.peer.keys, most_unanswered).await?;
     frames::write(&mut stream, frames::HELLO, &[&own_hello(shared).to_bytes()]).await?;
-    let hello = frames::read_hello(&mut stream, &shared.file.system.id);
+    let hello = frames::read_greeting::<Hello, _>(&mut stream, &shared.file.system.id);
     let hello = frames::within(frames::MOST_GREETING, "it does not say who it is", hello).await?;
     match u32::from(hello.node) == link.peer.number {
         true => Ok(stream),
@@ -153,7 +186,39 @@ impl Drop for Gauge {
     }
 }
 
-/// Carries frames both ways until the connection ends.
+/// Takes frames and receipts until the connection ends.
+async fn read_all(shared: &Shared, link: &Link, mut from: ReadHalf<Stream>) -> io::Result<()> {
+    let (number, takes_receipts) = (link.peer.number, shared.gather.is_some());
+    let silence = MOST_SILENCE.max(shared.file.clock.period() * SILENT_PERIODS);
+    let receipt = if takes_receipts { NUMBER + MOST_RECEIPT } else { 0 };
+    let most = shared.longest_frame.max(receipt);
+    loop {
+        let message = timeout(silence, frames::read(&mut from, most)).await;
+        let message = message.map_err(|_| io::Error::new(io::ErrorKind::TimedOut, "nothing comes"))??;
+        let Some(message) = message else { return Ok(()) };
+        match message.kind {
+            frames::FRAME => take_frame(shared, number, message.body),
+            frames::RECEIPT if takes_receipts => take_receipt(shared, number, &message.body),
+            frames::RECEIPTS_WANTED if message.body.is_empty() => link.wants_receipts.store(true, Ordering::SeqCst),
+            _ => return Err(io::Error::new(io::ErrorKind::InvalidData, "a message of another kind")),
+        }
+    }
+}
+
+/// Writes what goes to the neighbour until the connection ends. A node with a door for devices asks for receipts first.
+async fn write_all(shared: &Shared, link: &Link, mut to: WriteHalf<Stream>) -> io::Result<()> {
+    if shared.gather.is_some() {
+        frames::write(&mut to, frames::RECEIPTS_WANTED, &[]).await?;
+    }
+    loop {
+        let (kind, out) = link.next().await;
+        let written = timeout(MOST_WRITING, frames::write(&mut to, kind, &[&out.bytes])).await;
+        written.map_err(|_| io::Error::new(io::ErrorKind::TimedOut, "it does not read"))??;
+        out.is_handed_over();
+    }
+}
+
+/// Carries frames and receipts both ways until the connection ends.
 async fn serve(shared: &Shared, link: &Link, stream: Stream) {
     let number = link.peer.number;
     let gauge = Gauge(shared.counts.connected.with_label_values(&[&number.to_string()]));
@@ -163,28 +228,11 @@ async fn serve(shared: &Shared, link: &Link, stream: Stream) {
     if let Some(unsaid) = unsaid {
         tracing::info!(peer = number, unsaid, "connected");
     }
-    let (mut from, mut to) = tokio::io::split(stream);
-    let period = Duration::from_millis(shared.file.clock.period_ms.into());
-    let silence = MOST_SILENCE.max(period * SILENT_PERIODS);
-    let reading = async {
-        loop {
-            let message = timeout(silence, frames::read(&mut from, shared.longest_frame)).await;
-            match message.map_err(|_| io::Error::new(io::ErrorKind::TimedOut, "nothing comes"))?? {
-                Some(message) if message.kind == frames::FRAME => take_frame(shared, number, message.body),
-                Some(_) => return Err(io::Error::new(io::ErrorKind::InvalidData, "a message of another kind")),
-                None => return Ok(()),
-            }
-        }
+    let (from, to) = tokio::io::split(stream);
+    let ended = tokio::select! {
+        ended = read_all(shared, link, from) => ended,
+        ended = write_all(shared, link, to) => ended,
     };
-    let writing = async {
-        loop {
-            let frame = link.queue.pop().await;
-            let written = timeout(MOST_WRITING, frames::write(&mut to, frames::FRAME, &[&frame.bytes])).await;
-            written.map_err(|_| io::Error::new(io::ErrorKind::TimedOut, "it does not read"))??;
-            frame.is_handed_over();
-        }
-    };
-    let ended: io::Result<()> = tokio::select! { ended = reading => ended, ended = writing => ended };
     link.is_changed();
     let told = ended.map_or_else(|told| told.to_string(), |()| "it ended".into());
     if unsaid.is_some() {
@@ -199,5 +247,43 @@ fn take_frame(shared: &Shared, from: u32, frame: Vec<u8>) {
         Err(Refused::Fault(fault)) => shared.refuse(fault),
         Err(Refused::Late) => shared.refuse(vamuretu::NodeFault::F2),
         Err(Refused::Barred) => shared.counts.barred.with_label_values(&[&from.to_string()]).inc(),
+    }
+}
+
+/// Hands a receipt to its run.
+fn take_receipt(shared: &Shared, from: u32, body: &[u8]) {
+    let taken = body.split_first_chunk().map(|(run, receipt)| shared.offer(from, u32::from_be_bytes(*run), receipt));
+    if !matches!(taken, Some(Ok(()))) {
+        shared.refuse_receipt(from);
+    }
+}
+
+#[cfg(test)]
+mod tests {
+    use super::*;
+
+    #[tokio::test]
+    async fn receipts_go_behind_frames_to_who_wants_them() {
+        let dropped = prometheus::IntCounterVec::new(prometheus::Opts::new("dropped", "frames"), &["peer"]);
+        let peer = |number| Peer { number, address: ([127, 0, 0, 1], 1).into(), keys: vec![] };
+        let links = Links::new([1, 2].map(peer).iter(), 1 << 16, dropped.expect("made"));
+        let [one, two] = [1, 2].map(|number| links.links[&number].clone());
+        one.wants_receipts.store(true, Ordering::SeqCst);
+        links.hand_on(7, b"a receipt");
+        (1..3).for_each(|node| links.send(node, Outgoing::new(Arc::from(&b"a frame"[..]))));
+        let mut got = vec![];
+        for link in [&one, &one, &two] {
+            let (kind, out) = link.next().await;
+            got.push((kind, out.bytes.to_vec()));
+        }
+        let frame = (frames::FRAME, b"a frame".to_vec());
+        assert_eq!(got, [frame.clone(), (frames::RECEIPT, b"\0\0\0\x07a receipt".to_vec()), frame]);
+        assert!(timeout(Duration::from_millis(50), two.next()).await.is_err(), "it wants none");
+        (0..20).for_each(|run| links.hand_on(run, &[0; MOST_RECEIPT]));
+        assert_eq!(one.next().await.1.bytes[..NUMBER], [0, 0, 0, 12], "the oldest are dropped");
+        // A new connection has to ask again.
+        one.is_changed();
+        links.hand_on(8, b"a receipt");
+        assert!(timeout(Duration::from_millis(50), one.next()).await.is_err());
     }
 }

@@ -3,13 +3,14 @@
 use std::collections::BTreeSet;
 use std::fs::{self, File};
 use std::io::{self, Read};
+use std::path::Path;
 use std::sync::mpsc::{Receiver, RecvTimeoutError};
 use std::sync::Arc;
 use std::time::{Duration, Instant};
 
 use tokio::sync::oneshot;
 
-use super::spool::Logs;
+use super::spool::{Kept, Logs};
 use crate::disk;
 
 /// How often it is tried again what the disk did not do.
@@ -23,6 +24,8 @@ pub enum Job {
     Move(u32),
     /// To read the log of a run that waits.
     Read(u32, oneshot::Sender<io::Result<Vec<u8>>>),
+    /// To put what is kept of a decision.
+    Keep(Kept, u32, Vec<u8>),
 }
 
 pub struct Shelf {
@@ -59,6 +62,7 @@ impl Shelf {
             Job::Move(run) => _ = self.unmoved.insert(run) && self.give_way(run),
             // Who asked may be gone with the connection.
             Job::Read(run, answer) => _ = answer.send(self.read(run)),
+            Job::Keep(kind, run, bytes) => self.keep(kind, run, &bytes),
         }
     }
 
@@ -85,11 +89,41 @@ impl Shelf {
         if !self.make_room(bytes.len() as u64) {
             return Err(io::Error::other("the spool is full of logs that nobody has acknowledged"));
         }
-        disk::put(&self.logs.fresh_path(run), 0o644, bytes)
+        loop {
+            match disk::put(&self.logs.fresh_path(run), 0o644, bytes) {
+                Err(told) if told.raw_os_error() == Some(libc::ENOSPC) && self.give_decision_up() => {}
+                put => return put,
+            }
+        }
     }
 
-    /// Takes logs away, the oldest acknowledged first: those whose time is over, and others as far as room is wanted. Tells
-    /// whether there is room.
+    /// Takes the oldest decision away that is kept. Tells whether there was one.
+    fn give_decision_up(&self) -> bool {
+        let run = self.logs.oldest_kept();
+        run.into_iter().for_each(|run| self.take_decision(run));
+        run.is_some()
+    }
+
+    /// Takes away what is kept of the decision of a run.
+    fn take_decision(&self, run: u32) {
+        for kind in Kept::ALL.into_iter().filter(|&kind| self.logs.bytes_of_kept(kind, run).is_some()) {
+            let gone = remove(&self.logs.kept_path(kind, run));
+            self.logs.is_kept_taken(kind, run, gone.is_ok());
+        }
+    }
+
+    /// Puts what is kept of a decision, if there is room.
+    fn keep(&self, kind: Kept, run: u32, bytes: &[u8]) {
+        let put = match self.make_room((bytes.len() + disk::SEAL) as u64) {
+            true => disk::put_sealed(&self.logs.kept_path(kind, run), 0o644, bytes),
+            false => Err(io::Error::other("the spool is full of logs that nobody has acknowledged")),
+        };
+        self.logs.is_kept(kind, run, bytes.len(), put);
+        self.logs.tell();
+    }
+
+    /// Takes logs and decisions away, those of the oldest run first: those whose time is over, and others as far as room is
+    /// wanted. Tells whether there is room.
     fn make_room(&self, wanted: u64) -> bool {
         loop {
             match self.logs.goes(wanted) {
@@ -100,11 +134,11 @@ impl Shelf {
     }
 
     fn take_away(&self, run: u32, is_over: bool) {
-        let path = self.logs.path(run, false);
-        let gone = fs::remove_file(&path).or_else(|told| match told.kind() {
-            io::ErrorKind::NotFound => Ok(()),
-            _ => Err(told),
-        });
+        self.take_decision(run);
+        if !self.logs.is_acknowledged(run) {
+            return;
+        }
+        let gone = remove(&self.logs.path(run, false));
         self.logs.is_taken(run, gone.is_ok());
         match gone {
             Err(told) => tracing::error!(alarm = "spool", run, %told, "an acknowledged log can't be taken away"),
@@ -135,16 +169,28 @@ impl Shelf {
 
     /// All of a log that waits.
     fn read(&self, run: u32) -> io::Result<Vec<u8>> {
-        let (path, mut bytes) = (self.logs.path(run, true), vec![]);
-        // Who opens a pipe waits for its other end.
-        if !fs::symlink_metadata(&path)?.is_file() {
-            return Err(io::Error::new(io::ErrorKind::InvalidData, "it is no file"));
-        }
-        let file = File::open(path)?;
-        file.take(self.logs.bytes_of(run) + 1).read_to_end(&mut bytes)?;
-        match bytes.len() as u64 == self.logs.bytes_of(run) {
-            true => Ok(bytes),
-            false => Err(io::Error::new(io::ErrorKind::InvalidData, "its file has another length than was written")),
-        }
+        read(&self.logs.path(run, true), self.logs.bytes_of(run))
+    }
+}
+
+/// Takes a file away, if it is there.
+fn remove(path: &Path) -> io::Result<()> {
+    fs::remove_file(path).or_else(|told| match told.kind() {
+        io::ErrorKind::NotFound => Ok(()),
+        _ => Err(told),
+    })
+}
+
+/// All of a file that has so many bytes.
+pub fn read(path: &Path, length: u64) -> io::Result<Vec<u8>> {
+    let mut bytes = vec![];
+    // Who opens a pipe waits for its other end.
+    if !fs::symlink_metadata(path)?.is_file() {
+        return Err(io::Error::new(io::ErrorKind::InvalidData, "it is no file"));
+    }
+    File::open(path)?.take(length + 1).read_to_end(&mut bytes)?;
+    match bytes.len() as u64 == length {
+        true => Ok(bytes),
+        false => Err(io::Error::new(io::ErrorKind::InvalidData, "its file has another length than was written")),
     }
 }

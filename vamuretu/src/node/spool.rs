@@ -1,9 +1,9 @@
 //! The logs of this node's runs, on the disk until a watcher has acknowledged them, and longer.
 //!
 //! Two folders: `waiting` has the logs that not each watcher has acknowledged, and `acknowledged` the others. A file is a log
-//! that zstd has compressed, under the number of its run. The file `system` says whose logs these are. One thread has the
-//! files (`shelf`), and the network never waits for it. Which logs are there, and what has come of handing them over, is known
-//! in memory.
+//! that zstd has compressed, under the number of its run. The folder `decided` has what was decided in these runs, for those
+//! who ask later. The file `system` says whose logs these are. One thread has the files (`shelf`), and the network never waits
+//! for it. Which logs are there, and what has come of handing them over, is known in memory.
 
 use std::collections::{BTreeMap, VecDeque};
 use std::fs;
@@ -15,14 +15,15 @@ use std::sync::{Arc, Mutex, MutexGuard};
 use std::thread;
 use std::time::{Duration, Instant};
 
-use tokio::sync::{oneshot, Notify};
+use tokio::sync::{oneshot, Notify, Semaphore};
+use tokio::task::spawn_blocking;
 
 use super::answers::Stuck;
 use super::counts::Counts;
-use super::shelf::{Job, Shelf};
+use super::shelf::{self, Job, Shelf};
 use crate::config::NodeFile;
 use crate::disk::{self, Lock};
-use crate::watch::judge::pack;
+use crate::watch::judge::{pack, unpack};
 use crate::End;
 
 /// How often a log that can't be handed over is tried before it is passed by, how long after the last time, and how often then.
@@ -33,8 +34,11 @@ const PASSED_BY: Duration = Duration::from_secs(3600);
 const MOST_DOUBLED: u32 = 7;
 /// How long a run waits for the disk.
 const MOST_PUT: Duration = Duration::from_secs(10);
-/// The most bytes of the logs that the disk has not taken yet.
+/// The most bytes of the logs that the disk has not taken yet, and of the decisions.
 const MOST_UNSTORED: usize = 16 << 20;
+const MOST_UNKEPT: usize = 4 << 20;
+/// The most bytes of the line of a decision.
+const MOST_LINE: usize = 1 << 20;
 /// How many of the logs that are passed by the status names.
 const MOST_TOLD: usize = 64;
 const DAY_MS: u64 = 86_400_000;
@@ -42,7 +46,31 @@ const ENDING: &str = ".log.zst";
 /// The folders, and the file that says whose they are.
 const WAITING: &str = "waiting";
 const ACKNOWLEDGED: &str = "acknowledged";
+const DECIDED: &str = "decided";
+const FOLDERS: [&str; 3] = [WAITING, ACKNOWLEDGED, DECIDED];
 const OWNER: &str = "system";
+
+/// What is kept of a decision beside the log, each in a file. None is worth as much as a log: the disk is not waited for, and
+/// it goes with the log of its run, or where there is no room.
+#[derive(Debug, Clone, Copy, PartialEq, Eq)]
+pub enum Kept {
+    /// The line that applications get, which zstd has compressed.
+    Line,
+    /// The message that devices get.
+    Shown,
+}
+
+impl Kept {
+    pub const ALL: [Kept; 2] = [Kept::Line, Kept::Shown];
+
+    /// What the name of its file ends with.
+    fn ending(self) -> &'static str {
+        match self {
+            Kept::Line => ".line.zst",
+            Kept::Shown => ".shown",
+        }
+    }
+}
 
 /// What has come of handing a log to a watcher that has not acknowledged it.
 #[derive(Debug, Default)]
@@ -100,7 +128,10 @@ struct All {
     /// The bytes of the logs of the second folder.
     acknowledged: BTreeMap<u32, u64>,
     unstored: BTreeMap<u32, Unstored>,
-    /// The bytes of both folders.
+    /// The bytes of what is kept of decisions, by kind, and of what the disk has still to take.
+    kept: [BTreeMap<u32, u64>; 2],
+    unkept: usize,
+    /// The bytes of all folders.
     bytes: u64,
     /// The newest run whose log was to be kept since the start. It began by a clock that was right.
     newest: Option<u32>,
@@ -115,6 +146,23 @@ impl All {
             let wanted = (0..watchers).map(|place| (place, Tries::default())).collect();
             self.waiting.insert(run, Waiting { bytes, wanted });
         }
+    }
+
+    /// Notes what was put of a decision, in the place of what was there.
+    fn keep(&mut self, kind: Kept, run: u32, bytes: u64) {
+        self.bytes += bytes;
+        self.bytes -= self.kept[kind as usize].insert(run, bytes).unwrap_or(0);
+    }
+
+    /// The oldest run of whose decision something is kept.
+    fn oldest_kept(&self) -> Option<u32> {
+        self.kept.iter().filter_map(|it| it.first_key_value()).map(|(&run, _)| run).min()
+    }
+
+    /// The oldest run of which something can be taken away: its acknowledged log, or what is kept of its decision.
+    fn oldest(&self) -> Option<u32> {
+        let log = self.acknowledged.first_key_value().map(|(&run, _)| run);
+        log.into_iter().chain(self.oldest_kept()).min()
     }
 
     /// Holds a log in memory. Tells the runs whose logs have to go for it, the oldest.
@@ -155,7 +203,7 @@ impl Logs {
     fn new(folder: &Path, watchers: Vec<SocketAddr>, keeps: u64, most_bytes: u64, counts: Counts) -> Result<Logs, End> {
         let (all, come) = (Mutex::default(), Notify::new());
         let logs = Logs { folder: folder.into(), watchers, keeps, most_bytes, all, come, counts };
-        for (name, watchers) in [(WAITING, logs.watchers.len()), (ACKNOWLEDGED, 0)] {
+        for (name, watchers) in [(WAITING, Some(logs.watchers.len())), (ACKNOWLEDGED, Some(0)), (DECIDED, None)] {
             let path = folder.join(name);
             fs::create_dir_all(&path).map_err(End::file(&path))?;
             logs.read(&path, watchers).map_err(End::file(&path))?;
@@ -173,6 +221,11 @@ impl Logs {
         path_of(&self.folder, run, is_waiting)
     }
 
+    /// The file of what is kept of a decision.
+    pub fn kept_path(&self, kind: Kept, run: u32) -> PathBuf {
+        self.folder.join(DECIDED).join(format!("{run:010}{}", kind.ending()))
+    }
+
     /// Where a log goes that nobody has acknowledged.
     pub fn fresh_path(&self, run: u32) -> PathBuf {
         self.path(run, !self.watchers.is_empty())
@@ -188,16 +241,22 @@ impl Logs {
         self.counts.spool_unstored.set(all.unstored.len() as i64);
     }
 
-    /// Notes the logs of a folder, and takes away what is not whole.
-    fn read(&self, folder: &Path, watchers: usize) -> io::Result<()> {
+    /// Notes the logs of a folder for so many watchers, or what is kept of decisions, and takes away what is not whole.
+    fn read(&self, folder: &Path, watchers: Option<usize>) -> io::Result<()> {
         let mut all = self.all();
         for entry in fs::read_dir(folder)? {
             let entry = entry?;
             let name = entry.file_name().to_string_lossy().into_owned();
+            let run_of = |ending: &str| name.strip_suffix(ending).and_then(|run| run.parse().ok());
             if name.ends_with(disk::NEW) {
                 fs::remove_file(entry.path())?;
-            } else if let Some(run) = name.strip_suffix(ENDING).and_then(|run| run.parse().ok()) {
-                all.put(run, entry.metadata()?.len(), watchers);
+                continue;
+            }
+            let bytes = entry.metadata()?.len();
+            if let Some(watchers) = watchers {
+                run_of(ENDING).into_iter().for_each(|run| all.put(run, bytes, watchers));
+            } else if let Some((kind, run)) = Kept::ALL.iter().find_map(|&kind| Some((kind, run_of(kind.ending())?))) {
+                all.keep(kind, run, bytes);
             }
         }
         Ok(())
@@ -248,16 +307,20 @@ impl Logs {
         self.tell();
     }
 
-    /// The oldest acknowledged log, if it has to go, for its time is over by the timetable or for room. Tells whether its time
-    /// is over, or else whether there is room.
+    /// The oldest run of an acknowledged log or a decision, if these have to go, for their time is over by the timetable or for
+    /// room. Tells whether their time is over, or else whether there is room.
     pub fn goes(&self, wanted: u64) -> Result<(u32, bool), bool> {
         let all = self.all();
         let is_full = all.bytes + wanted > self.most_bytes;
         let is_over = |run: u32| all.newest.map_or(false, |newest| u64::from(newest.saturating_sub(run)) > self.keeps);
-        match all.acknowledged.first_key_value().map(|(&run, _)| (run, is_over(run))) {
+        match all.oldest().map(|run| (run, is_over(run))) {
             Some((run, is_over)) if is_over || is_full => Ok((run, is_over)),
             _ => Err(!is_full),
         }
+    }
+
+    pub fn is_acknowledged(&self, run: u32) -> bool {
+        self.all().acknowledged.contains_key(&run)
     }
 
     /// Notes that an acknowledged log was taken away, or that it can't be, and stays till the next start.
@@ -266,11 +329,42 @@ impl Logs {
         let bytes = all.acknowledged.remove(&run).unwrap_or(0);
         all.bytes -= if is_gone { bytes } else { 0 };
     }
+
+    /// The same of what is kept of a decision.
+    pub fn is_kept_taken(&self, kind: Kept, run: u32, is_gone: bool) {
+        let mut all = self.all();
+        let bytes = all.kept[kind as usize].remove(&run).unwrap_or(0);
+        all.bytes -= if is_gone { bytes } else { 0 };
+    }
+
+    pub fn oldest_kept(&self) -> Option<u32> {
+        self.all().oldest_kept()
+    }
+
+    /// How many bytes the file has of what is kept of a decision, if it is there.
+    pub fn bytes_of_kept(&self, kind: Kept, run: u32) -> Option<u64> {
+        self.all().kept[kind as usize].get(&run).copied()
+    }
+
+    /// Notes what came of putting what is kept of a decision.
+    pub fn is_kept(&self, kind: Kept, run: u32, bytes: usize, put: io::Result<()>) {
+        let mut all = self.all();
+        all.unkept -= bytes;
+        match put {
+            Ok(()) => all.keep(kind, run, (bytes + disk::SEAL) as u64),
+            Err(told) => {
+                self.counts.unkept.inc();
+                tracing::debug!(run, %told, "a decision was not kept");
+            }
+        }
+    }
 }
 
 pub struct Spool {
     logs: Arc<Logs>,
     jobs: Sender<Job>,
+    /// Whose turn it is to read what is kept of a decision.
+    reads: Arc<Semaphore>,
     _lock: Lock,
 }
 
@@ -295,7 +389,7 @@ fn compare_owner(folder: &Path, wanted: &str) -> Result<(), End> {
         Ok(text) if text == wanted => Ok(()),
         Ok(_) => Err(End::fault(&path, "the logs are of another node, or of another system")),
         Err(told) if told.kind() != io::ErrorKind::NotFound => Err(End::unusable(path.display(), &told)),
-        Err(_) if has_files(&folder.join(WAITING))? || has_files(&folder.join(ACKNOWLEDGED))? => {
+        Err(_) if FOLDERS.iter().try_fold(false, |has, name| Ok(has || has_files(&folder.join(name))?))? => {
             Err(End::fault(&path, format!("nothing says whose logs these are; this node's have {wanted:?} there")))
         }
         Err(_) => disk::put(&path, 0o644, wanted.as_bytes()).map_err(End::file(&path)),
@@ -320,7 +414,7 @@ impl Spool {
         let shelf = Shelf::new(logs.clone());
         let started = thread::Builder::new().name("disk".into()).spawn(move || shelf.work(&asked));
         started.map_err(|told| End::unusable("a thread", &told))?;
-        Ok(Spool { logs, jobs, _lock })
+        Ok(Spool { logs, jobs, reads: Arc::new(Semaphore::new(1)), _lock })
     }
 
     /// Hands the log of a run to the disk. Where the spool has no room, the oldest logs go that each watcher has acknowledged.
@@ -338,6 +432,49 @@ impl Spool {
         }
         self.ask(Job::Put(run));
         put
+    }
+
+    /// Has the thread of the disk keep what was decided in a run. Nobody waits for it, and where too much waits it is dropped.
+    pub fn keep_decision(&self, kind: Kept, run: u32, bytes: Vec<u8>) {
+        let mut all = self.logs.all();
+        if all.unkept + bytes.len() > MOST_UNKEPT {
+            self.logs.counts.unkept.inc();
+            return;
+        }
+        all.unkept += bytes.len();
+        drop(all);
+        self.ask(Job::Keep(kind, run, bytes));
+    }
+
+    /// Keeps the line of a decision.
+    pub fn keep_line(&self, run: u32, line: &str) {
+        match pack(line.as_bytes()) {
+            Ok(bytes) => self.keep_decision(Kept::Line, run, bytes),
+            Err(_) => self.logs.counts.unkept.inc(),
+        }
+    }
+
+    /// The least run from this one on of whose decision this is kept.
+    pub fn next_kept(&self, kind: Kept, run: u32) -> Option<u32> {
+        self.logs.all().kept[kind as usize].range(run..).next().map(|(&run, _)| run)
+    }
+
+    /// Reads what is kept of a decision. One is read at a time, and no log waits for that.
+    pub async fn read_kept(&self, kind: Kept, run: u32) -> io::Result<Vec<u8>> {
+        let turn = self.reads.clone().acquire_owned().await.map_err(io::Error::other)?;
+        let bytes = self.logs.bytes_of_kept(kind, run).ok_or(io::ErrorKind::NotFound)?;
+        let path = self.logs.kept_path(kind, run);
+        let read = move || {
+            let _turn = turn;
+            disk::unsealed(shelf::read(&path, bytes)?)
+        };
+        spawn_blocking(read).await.map_err(io::Error::other)?
+    }
+
+    /// Reads the line of a decision.
+    pub async fn read_line(&self, run: u32) -> io::Result<String> {
+        let line = unpack(&self.read_kept(Kept::Line, run).await?, MOST_LINE)?;
+        String::from_utf8(line).map_err(io::Error::other)
     }
 
     fn ask(&self, job: Job) {
@@ -483,7 +620,7 @@ pub fn write_log(file: &NodeFile, run: u32) -> Result<(), End> {
 }
 
 #[cfg(test)]
-mod tests {
+pub mod tests {
     use sha2::{Digest, Sha256};
     use tokio::io::{duplex, DuplexStream};
 
@@ -500,7 +637,8 @@ mod tests {
         folder
     }
 
-    fn spool(name: &str, watchers: usize, keeps: u64, most_bytes: u64) -> Spool {
+    /// A spool in a folder of its own.
+    pub fn spool(name: &str, watchers: usize, keeps: u64, most_bytes: u64) -> Spool {
         let (folder, address) = (folder(name), "127.0.0.1:1".parse().expect("an address"));
         let logs = Logs::new(&folder, vec![address; watchers], keeps, most_bytes, Counts::new(40)).expect("logs");
         Spool::start(logs, Lock::take(&folder).expect("the folder")).expect("a thread")
@@ -540,7 +678,8 @@ mod tests {
         })
     }
 
-    fn end(spool: Spool) {
+    /// Takes the folder of a spool away.
+    pub fn end(spool: Spool) {
         fs::remove_dir_all(&spool.logs.folder).expect("taken away");
     }
 
@@ -613,6 +752,60 @@ mod tests {
         let logs = Logs::new(&folder, vec![], 0, 1 << 20, counts).expect("logs");
         assert_eq!(logs.goes(0), Err(true));
         fs::remove_dir_all(&folder).expect("taken away");
+    }
+
+    /// Waits until the disk has taken or refused all decisions.
+    pub fn settle(spool: &Spool) {
+        await_that(|| spool.logs.all().unkept == 0);
+    }
+
+    /// What is kept of a decision, once it is.
+    async fn kept(spool: &Spool, kind: Kept, run: u32) -> Option<Vec<u8>> {
+        settle(spool);
+        spool.read_kept(kind, run).await.ok()
+    }
+
+    #[tokio::test]
+    async fn what_was_decided_is_kept_with_the_log() {
+        let spool = spool("decided", 1, 2, 1 << 20);
+        for run in [1, 2, 3] {
+            assert!(keep(&spool, run, &log(run as u8)));
+            spool.keep_line(run, "{}");
+            spool.keep_decision(Kept::Shown, run, vec![run as u8]);
+        }
+        settle(&spool);
+        assert_eq!((kept(&spool, Kept::Shown, 2).await, spool.next_kept(Kept::Shown, 2)), (Some(vec![2]), Some(2)));
+        assert_eq!((spool.read_line(3).await.expect("a line").as_str(), spool.next_kept(Kept::Line, 4)), ("{}", None));
+        assert!(kept(&spool, Kept::Shown, 4).await.is_none());
+        // The log of run 1 waits for the watcher, and its decision goes by the number of the run.
+        assert!(keep(&spool, 4, &log(4)));
+        await_that(|| spool.next_kept(Kept::Shown, 0) == Some(2));
+        assert_eq!((spool.next_kept(Kept::Line, 0), wanted(&spool, 0)), (Some(2), vec![1, 2, 3, 4]));
+        // A start finds what is kept, and not a file that is cut.
+        fs::write(spool.logs.kept_path(Kept::Shown, 3), b"cut").expect("cut");
+        let (folder, before) = (spool.logs.folder.clone(), spool.logs.all().bytes);
+        drop(spool);
+        let logs = Logs::new(&folder, vec![], 2, 1 << 20, Counts::new(40)).expect("logs");
+        assert_eq!(logs.all().bytes, before - 33 + 3);
+        let spool = Spool::start(logs, Lock::take(&folder).expect("the folder")).expect("a thread");
+        assert_eq!((kept(&spool, Kept::Shown, 2).await, kept(&spool, Kept::Shown, 3).await), (Some(vec![2]), None));
+        end(spool);
+    }
+
+    #[tokio::test]
+    async fn decisions_give_way_to_logs() {
+        let spool = spool("way", 1, 99, 4200);
+        assert!(keep(&spool, 1, &log(1)) && keep(&spool, 2, &log(2)));
+        (1..=3).for_each(|run| spool.keep_decision(Kept::Shown, run, vec![0; 600]));
+        assert_eq!(kept(&spool, Kept::Shown, 3).await.map(|it| it.len()), Some(600));
+        assert!(keep(&spool, 3, &log(3)) && spool.logs.all().bytes <= 4200);
+        assert_eq!((spool.next_kept(Kept::Shown, 0), spool.logs.counts.spool_given_up.get()), (Some(3), 0));
+        assert!(keep(&spool, 4, &log(4)) && spool.next_kept(Kept::Shown, 0).is_none());
+        spool.keep_decision(Kept::Shown, 5, vec![0; 600]);
+        assert!(kept(&spool, Kept::Shown, 5).await.is_none() && spool.logs.counts.unkept.get() == 1);
+        spool.keep_decision(Kept::Shown, 6, vec![0; MOST_UNKEPT + 1]);
+        assert_eq!((spool.logs.counts.unkept.get(), wanted(&spool, 0)), (2, vec![1, 2, 3, 4]));
+        end(spool);
     }
 
     #[test]

@@ -148,7 +148,7 @@ pub fn places(file: &WatchFile, transport: &Transport) -> Result<Arc<doors::Door
     let known = (0..file.system.roots.len() as u32).map(|node| {
         let watched = file.nodes.iter().find(|it| it.number == node);
         let address = watched.and_then(|it| it.address).map(|address| address.to_canonical());
-        Known { node, address, keys: watched.map(|it| it.keys.clone()).unwrap_or_default() }
+        Known { number: node, address, keys: watched.map(|it| it.keys.clone()).unwrap_or_default() }
     });
     doors::Door::new(file.system.id, known.collect(), transport, frames::UNANSWERED_BY_WATCHER, MOST_CONNECTIONS)
 }
@@ -161,7 +161,7 @@ pub async fn listen(listener: TcpListener, door: Arc<Door>) {
 
 /// Takes what a connection brings, message by message, until it ends or brings what is no message of a node.
 async fn serve(door: Arc<Door>, shown: Shown) -> io::Result<()> {
-    let Shown { node, from, mut stream } = shown;
+    let Shown { number: node, from, mut stream, .. } = shown;
     tracing::debug!(%from, node, "a connection");
     // The node by its key, not by what it says.
     let node = node as u8;
