@@ -663,11 +663,13 @@ mod tests {
 
     /// The bounds of keys as docs/REFERENCE.md has them. Behind each stands a key of the example with such bounds, and values that
     /// it may have and may not have. Other tests here try the bounds that stand without a key.
-    const BOUNDS: [(&str, &str, &[&str], &[&str]); 13] = [
+    const BOUNDS: [(&str, &str, &[&str], &[&str]); 15] = [
         ("2 to 16 files, one for each node", "roots", &[ROOTS], &["[\"0\"]", MANY_ROOTS]),
         ("below the number of `roots`", "number", &["3"], &["4", "-1"]),
         ("below the number of `roots`, each once", "", &[], &[]),
         ("1 or 2 with `[key]`, each once in the file, and else none", "", &[], &[]),
+        ("1 to 64 with `[key]`, each once in the file, and else none", "", &[], &[]),
+        ("1 to 64 without `[key]`, each once, and else none", "", &[], &[]),
         (
             "a moment is behind 1970, and ends with `Z`",
             "start",
@@ -747,7 +749,10 @@ mod tests {
         };
         assert!(read(plain("addresses = [\"192.0.2.9\", \"2001:db8::1\"]")).is_ok());
         let one = format!("keys = [\"{}\"]", pin('1'));
+        let many = |count| format!("keys = {:?}", (0..count).map(|it| format!("{it:064x}")).collect::<Vec<_>>());
+        assert!(read(of(&many(64))).is_ok());
         let wrong = [
+            (of(&many(65)), "more than 64"),
             (of(""), "with [key] it has keys"),
             (of("addresses = [\"192.0.2.9\"]"), "with [key] it has keys"),
             (of("keys = [\"1\"]"), "64 hexadecimal digits"),
