@@ -749,7 +749,7 @@ mod tests {
         };
         assert!(read(plain("addresses = [\"192.0.2.9\", \"2001:db8::1\"]")).is_ok());
         let one = format!("keys = [\"{}\"]", pin('1'));
-        let many = |count| format!("keys = {:?}", (0..count).map(|it| format!("{it:064x}")).collect::<Vec<_>>());
+        let many = |count| format!("keys = {:?}", (1..=count).map(|it| format!("{it:064x}")).collect::<Vec<_>>());
         assert!(read(of(&many(64))).is_ok());
         let wrong = [
             (of(&many(65)), "more than 64"),
