@@ -17,7 +17,7 @@ import time
 
 from attack_lab import Attacked, Lab, await_that, message, plain, read_message, wants
 from cargo_built import build_program
-from controllers import ORDERS, Wrong, named
+from controllers import ORDERS, PATIENCE, Wrong, named
 from programs import run
 from wires import free_ports
 
@@ -206,11 +206,10 @@ def admitted(made, number, receipt):
 def collected(stream, kind, seconds):
     """The bodies of the messages of a kind that come in some seconds, and whether receipts are asked for."""
     found, asked, end = [], False, time.monotonic() + seconds
-    with contextlib.suppress(TimeoutError):
-        while time.monotonic() < end:
-            came, body = read_message(stream)
-            found += [body] if came == kind else []
-            asked = asked or came == RECEIPTS_WANTED
+    while time.monotonic() < end:
+        came, body = read_message(stream)
+        found += [body] if came == kind else []
+        asked = asked or came == RECEIPTS_WANTED
     return found, asked
 
 
@@ -218,7 +217,7 @@ def neighbour(made):
     """Who takes the place of a neighbour gets receipts once it asks, and what it hands on that is wrong is counted alone."""
     made.nodes[OTHER].kill()
     stream, device = made.as_neighbour(OTHER, 0), Device(made, 0)
-    stream.settimeout(0.2)
+    stream.settimeout(PATIENCE)
     found, asked = collected(stream, RECEIPT, 4 * made.plan.period / 1000)
     wants(asked and not found, f"receipts are asked for: {asked}; {len(found)} came that nobody asked for")
     stream.sendall(message(RECEIPTS_WANTED, b""))
