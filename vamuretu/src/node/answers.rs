@@ -234,7 +234,7 @@ pub struct Devices {
 pub struct Spool {
     /// How many there are.
     pub logs: i64,
-    /// Their bytes.
+    /// Their bytes, and those of the decisions that are kept.
     pub bytes: i64,
     /// Those that no watcher has acknowledged, or not each.
     pub waiting: i64,

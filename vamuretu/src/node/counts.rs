@@ -144,7 +144,7 @@ impl Counts {
             steps: make.gauge("clock_steps", "How often the clock was set to another time."),
             round: make.histogram("round", "From the beginning of a round by the clock to its end.", round_ms),
             decision: make.histogram("decision", "From the beginning of a run by the clock to the decision.", round_ms),
-            spool_bytes: make.gauge("spool_bytes", "Bytes of the logs that are kept."),
+            spool_bytes: make.gauge("spool_bytes", "Bytes of the logs and the decisions that are kept."),
             spool_logs: make.gauge("spool_logs", "Logs that are kept."),
             spool_waiting: make.gauge("spool_waiting", "Logs that no watcher has acknowledged, or not each."),
             spool_refused: make

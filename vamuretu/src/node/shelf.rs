@@ -89,19 +89,7 @@ impl Shelf {
         if !self.make_room(bytes.len() as u64) {
             return Err(io::Error::other("the spool is full of logs that nobody has acknowledged"));
         }
-        loop {
-            match disk::put(&self.logs.fresh_path(run), 0o644, bytes) {
-                Err(told) if told.raw_os_error() == Some(libc::ENOSPC) && self.give_decision_up() => {}
-                put => return put,
-            }
-        }
-    }
-
-    /// Takes the oldest decision away that is kept. Tells whether there was one.
-    fn give_decision_up(&self) -> bool {
-        let run = self.logs.oldest_kept();
-        run.into_iter().for_each(|run| self.take_decision(run));
-        run.is_some()
+        disk::put(&self.logs.fresh_path(run), 0o644, bytes)
     }
 
     /// Takes away what is kept of the decision of a run.
@@ -112,11 +100,12 @@ impl Shelf {
         }
     }
 
-    /// Puts what is kept of a decision, if there is room.
+    /// Puts what is kept of a decision, if there is room, and no log waits for the disk.
     fn keep(&self, kind: Kept, run: u32, bytes: &[u8]) {
-        let put = match self.make_room((bytes.len() + disk::SEAL) as u64) {
+        let has_room = self.logs.all_unstored().is_empty() && self.make_room((bytes.len() + disk::SEAL) as u64);
+        let put = match has_room {
             true => disk::put_sealed(&self.logs.kept_path(kind, run), 0o644, bytes),
-            false => Err(io::Error::other("the spool is full of logs that nobody has acknowledged")),
+            false => Err(io::Error::other("logs take the room")),
         };
         self.logs.is_kept(kind, run, bytes.len(), put);
         self.logs.tell();

@@ -337,10 +337,6 @@ impl Logs {
         all.bytes -= if is_gone { bytes } else { 0 };
     }
 
-    pub fn oldest_kept(&self) -> Option<u32> {
-        self.all().oldest_kept()
-    }
-
     /// How many bytes the file has of what is kept of a decision, if it is there.
     pub fn bytes_of_kept(&self, kind: Kept, run: u32) -> Option<u64> {
         self.all().kept[kind as usize].get(&run).copied()
