@@ -7,7 +7,7 @@ node.
 TOOL is sm_tool and PROGRAM is vamuretu. It prints the table of docs/BUDGET.md: the median and the 99th percentile over all
 nodes and runs, in milliseconds. All nodes are neighbours and processes of this machine. Without a delay they talk over its
 own device, and with one in network namespaces (trials/wires.py), which want root: each packet of 1500 bytes is late by so
-much. A moment is that of the line that a node writes when its log is on the disk. A run begins five times a second, and no
+much. A moment is that of the line that a node writes when it has decided. A run begins five times a second, and no
 watcher takes part. Runs in which a frame lacked or a node was late are counted, and are in the figures. The last rows have
 one node that is halted, so each round takes its whole length but for an eighth.
 """

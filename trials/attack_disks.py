@@ -1,14 +1,17 @@
-"""Attacks by the disk (attacks.py): logs that can't be handed over, a disk that is slow or away, and two processes with one state, one spool or one socket."""
+"""Attacks by the disk (attacks.py): logs that can't be handed over, a disk that is slow or away, marks whose writes fail, and two processes with one state, one spool or one socket."""
 import contextlib
+import json
 import os
+import signal
 import subprocess
 import time
 
+from attack_clocks import mark_of
 from attack_lab import await_that, collected, wants
 
 NODES, WATCHER = range(4), 4
-# The spool whose logs are spoilt, the node whose disk or clock is, and the state that a second process wants.
-SPOILT, SLOW, STEPPED, TWICE = 1, 0, 2, 0
+# The spool whose logs are spoilt, the node whose disk or clock is, the state that a second process wants, and who is killed.
+SPOILT, SLOW, STEPPED, TWICE, KILLED = 1, 0, 2, 0, 3
 # What a second process may take to be refused, and what may pass until a log is passed by, in seconds.
 PATIENCE, PASSED_BY = 20, 40
 # How long an fsync takes on a slow disk, in microseconds.
@@ -123,11 +126,57 @@ def disk_away(lab):
         await_that(lambda: made.counts(SLOW)["vamuretu_spool_unstored"] >= 4, "logs are not stored")
         os.rename(f"{folder}.away", folder)
         await_that(lambda: not made.counts(SLOW)["vamuretu_spool_unstored"], "no log waits in memory")
-        unstored = [number for number, told in list(made.nodes[SLOW].decided.items()) if not told[0]["log_stored"]]
-        wants(len(unstored) >= 3, f"only {unstored} were told as not stored")
+        refused = {it["run"] for it in made.alarms(SLOW, "spool")}
+        wants(len(refused) >= 3, f"there are alarms for the logs of {refused} alone")
+        await_that(lambda: {*made.nodes[SLOW].stored} >= refused, "it is told that the disk has the logs that were put later")
         orders = f"SELECT number FROM logs WHERE node = {SLOW}"
-        await_that(lambda: {number for number, in made.asked(orders)} >= {*unstored}, "the watcher has the logs that were put later")
-        wants({it["run"] for it in made.alarms(SLOW, "spool")} >= {*unstored}, "no alarm for a log that was not stored")
+        await_that(lambda: {number for number, in made.asked(orders)} >= refused, "the watcher has the logs that were put later")
+        twice = [number for number, count in made.nodes[SLOW].stored.items() if count > 1]
+        wants(not twice, f"of the logs of {twice} it is told twice that they are stored")
+
+
+def begun_by(made, node):
+    """The newest run that a node has ended, or was too late to begin, by its lines."""
+    lines = [line for word in ('"decided"', '"too late to begin"', '"the run ended without') for line in made.said(node, word)]
+    return max(json.loads(line)["run"] for line in lines if line.endswith("}"))
+
+
+def kill(made, node):
+    """Kills a node, if it has not ended."""
+    process = made.nodes[node].process
+    if process.poll() is None:
+        os.kill(made.pid(node), signal.SIGKILL)
+    process.wait()
+
+
+@case("a node that is killed at the calls by which it stores a mark for several runs, whose disk refuses some, and that ends by itself", needs=("strace",))
+def marks(lab):
+    with lab.system(watcher=False) as made:
+        made.wait_runs(2)
+        node, state = made.nodes[KILLED], made.state_of(KILLED)
+        names = [state, state.replace(".state", ".mark")]
+        names = [*names, *(f"{name}.new" for name in names), os.path.dirname(state)]
+        traced = ["strace", "-f", "-qq", "-o", "/dev/null", *(word for name in names for word in ("-P", name))]
+        # What the system does at which of the calls on these files. Of four runs a mark and a state are stored.
+        fails = [("fsync", "signal=SIGKILL", at) for at in ("1", "2", "3", "4", "7")]
+        fails += [("rename", "signal=SIGKILL", at) for at in ("1", "2", "3")] + [("write", "signal=SIGKILL", "2")]
+        fails += [("fsync", "error=EIO", "2..6"), ("rename", "error=ENOSPC", "2..4")]
+        for call, what, when in fails:
+            kill(made, KILLED)
+            wants(mark_of(made, KILLED) >= begun_by(made, KILLED), f"killed: the mark is {mark_of(made, KILLED)}, behind run {begun_by(made, KILLED)}")
+            made.places.front[KILLED] = [*traced, "-e", f"trace={call}", f"--inject={call}:{what}:when={when}"]
+            node.start()
+            made.wait_runs(9 if what.startswith("error") else 4)
+        wants(made.alarms(KILLED, "state"), "no alarm tells of a mark or a state that was not stored")
+        made.places.front[KILLED] = []
+        for _ in range(2):
+            kill(made, KILLED)
+            node.start()
+            decides(made, "the node is started again")
+            wants(made.ends(KILLED), "the node does not end by SIGTERM")
+            wants(mark_of(made, KILLED) == begun_by(made, KILLED), f"ended: the mark is {mark_of(made, KILLED)}, and not {begun_by(made, KILLED)}")
+        node.start()
+        decides(made, "the node has ended by itself")
 
 
 @case("a clock that is two days ahead for a second and a half, with logs that are to be kept for a day")

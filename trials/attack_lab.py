@@ -387,17 +387,18 @@ class Attacked(Made):
         for node in nodes:
             all_of = [it for number in range(first, last) for it in self.nodes[node].decided.get(number, [])[:1]]
             counted = [sum(bool(holds(it)) for it in all_of) for holds in
-                       (lambda it: not it["in_time"], lambda it: it["lacked"], lambda it: not it["log_stored"], lambda it: it.get("holds"))]
+                       (lambda it: not it["in_time"], lambda it: it["lacked"], lambda it: it["run"] not in self.nodes[node].stored, lambda it: it.get("holds"))]
             told[node] = Told(len(all_of), *counted)
         return told
 
     def apart(self, nodes, first, last):
-        """The runs that nodes in time decided apart, or told twice."""
+        """The runs that nodes in time decided apart, or told twice, or of which a node told twice that the log is stored."""
         found = []
         for number in range(first, last):
             told = [self.nodes[node].decided.get(number, []) for node in nodes]
             orders = {it[0]["order"] for it in told if it and it[0]["in_time"]}
-            found += [number] if len(orders) > 1 or any(len(it) > 1 for it in told) else []
+            twice = any(len(it) > 1 for it in told) or any(self.nodes[node].stored[number] > 1 for node in nodes)
+            found += [number] if len(orders) > 1 or twice else []
         return found
 
     def lacking(self, nodes, first, last, away=()):

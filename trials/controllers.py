@@ -98,6 +98,8 @@ class Node(Process):
         self.config = os.path.join(made.folder, f"{number}.toml")
         self.socket = os.path.join(made.folder, f"{number}.socket")
         self.decided, self.lost, self.starts, self.process, self.told = {}, [], 0, None, threading.Lock()
+        # How often it was told that the disk has the log of a run, by its number.
+        self.stored = collections.Counter()
 
     def start(self):
         self.starts += 1
@@ -138,6 +140,7 @@ class Node(Process):
                 if told:
                     with self.told:
                         self.decided.setdefault(told["run"], []).append(self.kept(told))
+                self.stored.update([said["stored"]["run"]] if "stored" in said else [])
                 self.lost += (it["run"] for it in said.get("lost", {}).get("proposals", []))
 
     def read(self, line):
@@ -458,6 +461,18 @@ def decisions_wrong(made, first):
     return None if len(proposed) >= wanted else f"only {len(proposed)} decisions, of {len(by_run)} runs, are what was proposed"
 
 
+def stored_wrong(made, first):
+    """None where each node tells once that the disk has the log of a run, behind its decision, and one that was never killed
+    tells it of each run."""
+    for node in made.nodes:
+        told, decided = node.stored, {number for number in node.decided if number < first + RUNS}
+        wrong = [number for number, count in told.items() if count > 1 or number not in node.decided]
+        wrong += decided - {*told} if node.starts == 1 else []
+        if wrong:
+            return f"node {node.number} tells of the logs of {sorted(wrong)} twice, or not, or of no decision: {dict(told)}"
+    return None
+
+
 def log_of(made, node, number):
     """The log of a run that a node kept, or None."""
     end = run(made.program, ["log", made.nodes[node].config, str(number)])
@@ -640,6 +655,7 @@ def try_system(tally, made):
     first, middle, last, told, status = go(made)
     tally.hold("the nodes end", ended_wrong(made))
     tally.hold("decisions", decisions_wrong(made, first))
+    tally.hold("lines of logs that are stored", stored_wrong(made, first))
     tally.hold("the node that was killed, and the one whose clock was set", keys_wrong(made, first))
     tally.hold("logs", logs_wrong(made, tally, first))
     tally.hold("receipts", receipts_wrong(made, max(made.nodes[0].decided)))

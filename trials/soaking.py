@@ -78,7 +78,7 @@ class Soaked(Node):
 
     def kept(self, told):
         lacked = {it["node"] for it in told["lacked"]}
-        return {"order": told["order"], "in_time": told["in_time"], "lacked": lacked, "stored": told["log_stored"]}
+        return {"order": told["order"], "in_time": told["in_time"], "lacked": lacked}
 
     def propose(self, number, name):
         """Proposes, and waits for the answer a moment."""
@@ -291,6 +291,7 @@ def told_of(soak, number):
 def decisions_wrong(soak, numbers):
     """What is wrong with the decisions, and how many runs had at most m faulty nodes."""
     twice = [(node.number, number) for node in soak.made.nodes for number, told in node.decided.items() if len(told) > 1]
+    twice += [(node.number, number) for node in soak.made.nodes for number, count in node.stored.items() if count > 1]
     apart, held = [], 0
     for number in numbers:
         told, musts = told_of(soak, number)
@@ -309,7 +310,7 @@ def archive_wrong(soak, numbers):
     asked = soak.made.watcher.asked
     logs = {(number, node) for number, node in asked("SELECT number, node FROM logs")}
     runs = {number: (verdict, value) for number, verdict, value in asked("SELECT number, verdict, value FROM runs")}
-    stored = {(number, node.number) for node in soak.made.nodes for number, told in node.decided.items() if told[0]["stored"]}
+    stored = {(number, node.number) for node in soak.made.nodes for number in node.stored}
     kept, waiting = kept_logs(soak.made)
     wrong = [f"these logs lack: {sorted(stored - logs)[:9]}"] if stored - logs else []
     wrong += [f"spools have what lacks: {sorted(kept - logs)[:9]}, and {waiting} logs wait"] if kept - logs or waiting else []
@@ -373,7 +374,8 @@ def siege_wrong(soak):
 def disturbed_wrong(soak, numbers):
     """What is wrong with what happened to the nodes: it has to have happened, and all have to go on."""
     nodes = soak.made.nodes
-    refused = [number for number, told in nodes[KILLED].decided.items() if not told[0]["stored"]]
+    with open(soak.made.path(f"{KILLED}.said"), encoding="utf-8", errors="replace") as said:
+        refused = [line for line in said if '"the log was not kept"' in line]
     # A node may not start on a disk that is full.
     ended = [it for it in soak.ended if it[0] != KILLED]
     wrong = [f"ended by itself, before a run, with a status: {ended[:9]}"] if ended else []

@@ -47,6 +47,8 @@ pub const UNANSWERED_BY_WATCHER: Duration = Duration::from_secs(10);
 /// Within these it is a round, for a node.
 const LEAST_UNANSWERED: Duration = Duration::from_millis(200);
 const MOST_UNANSWERED: Duration = Duration::from_secs(2);
+/// So many bytes of a message go in one write with its front: the other end wakes once.
+const TOGETHER: usize = 64 << 10;
 /// After so long without a byte the other end's machine is asked whether it is there.
 const SILENT: Duration = Duration::from_secs(5);
 
@@ -168,13 +170,19 @@ pub async fn read<S: AsyncRead + Unpin + ?Sized>(from: &mut S, most: usize) -> i
 pub async fn write<S: AsyncWrite + Unpin + ?Sized>(to: &mut S, kind: u8, parts: &[&[u8]]) -> io::Result<()> {
     let length = 1 + parts.iter().map(|part| part.len()).sum::<usize>();
     let length = u32::try_from(length).map_err(|_| io::Error::from(ErrorKind::InvalidInput))?;
-    let mut front = [kind; 5];
-    front[..4].copy_from_slice(&length.to_be_bytes());
+    let mut first = Vec::with_capacity(TOGETHER.min(4 + length as usize));
+    first.extend(length.to_be_bytes());
+    first.push(kind);
     let whole = async {
-        to.write_all(&front).await?;
         for part in parts {
-            to.write_all(part).await?;
+            let (together, rest) = part.split_at(part.len().min(TOGETHER.saturating_sub(first.len())));
+            first.extend(together);
+            if !rest.is_empty() {
+                to.write_all(&std::mem::take(&mut first)).await?;
+                to.write_all(rest).await?;
+            }
         }
+        to.write_all(&first).await?;
         to.flush().await
     };
     within(MOST_MESSAGE, "the other end does not read", whole).await
@@ -391,6 +399,17 @@ mod tests {
         assert_eq!(first, Message { kind: LOG, body: b"12345".to_vec() });
         assert_eq!(now(read(&mut from, 5)).expect("read"), Some(Message { kind: HELLO, body: vec![] }));
         assert_eq!(now(read(&mut from, 5)).expect("read"), None);
+    }
+
+    #[test]
+    fn long_messages_are_whole() {
+        for lengths in [vec![0], vec![TOGETHER - 5], vec![TOGETHER - 4], vec![3, TOGETHER, 5, 0], vec![9 * TOGETHER]] {
+            let parts: Vec<Vec<u8>> = lengths.iter().zip(1..).map(|(&length, byte)| vec![byte; length]).collect();
+            let (mut bytes, all): (Vec<u8>, Vec<&[u8]>) = (vec![], parts.iter().map(|part| &part[..]).collect());
+            now(write(&mut bytes, LOG, &all)).expect("written");
+            let message = now(read(&mut &bytes[..], 9 * TOGETHER)).expect("read").expect("a message");
+            assert_eq!((message.kind, message.body == parts.concat()), (LOG, true), "{lengths:?}");
+        }
     }
 
     #[test]

@@ -21,11 +21,18 @@ const MOST_HASHING: u32 = 120_000_000;
 /// The most bytes of a file of roots, and one more.
 const MOST_ROOTS: u64 = 6 + (32 << 20);
 
+/// A set of keys: its number, and the last run that it serves.
+#[derive(Debug, Clone, Copy, PartialEq, Eq)]
+pub struct Set {
+    pub number: u32,
+    pub last: u32,
+}
+
 /// A run of the system.
 #[derive(Debug, Clone)]
 pub struct Run {
     pub number: u32,
-    pub set: u32,
+    pub set: Set,
     pub header: Header,
     pub run_id: RunId,
     /// The node that each general is.
@@ -164,13 +171,14 @@ impl Systems {
     }
 
     /// The set of a run.
-    pub fn set_of(&self, number: u32) -> u32 {
-        number / self.slots() as u32
+    pub fn set_of(&self, number: u32) -> Set {
+        let slots = self.slots() as u32;
+        Set { number: number / slots, last: number / slots * slots + (slots - 1) }
     }
 
     /// The admission of the set of a run.
     pub fn admission(&self, number: u32) -> Result<Arc<[u8]>, End> {
-        let set = self.set_of(number);
+        let set = self.set_of(number).number;
         if u64::from(number) >= self.runs() {
             return Err(End::over(format!("the system has no run {number}")));
         }

@@ -27,7 +27,7 @@ pub enum Line {
         /// The value that was proposed for this run before, and is not any more.
         replaced: Option<Value>,
     },
-    /// The answer to `decisions`, always true: lines `decided`, `lost`, `missed_decisions` and `missed_runs` follow.
+    /// The answer to `decisions`, always true: lines `decided`, `stored`, `lost`, `missed_decisions` and `missed_runs` follow.
     Listening {
         /// True.
         listening: bool,
@@ -52,10 +52,15 @@ pub enum Line {
         /// Why, for people.
         refused: String,
     },
-    /// A decision, once its log is on the disk, or the disk did not take it in time.
+    /// A decision: as soon as it is known, or one that the spool has.
     Decided {
         /// The decision.
         decided: Box<Decided>,
+    },
+    /// The disk has the log of a run whose decision was told before. It is told once ([who waits for it](NODES.md#before-the-log-is-stored)).
+    Stored {
+        /// The run.
+        stored: Stored,
     },
     /// Proposals that are lost: the node did not begin their runs, or ended them without a decision.
     Lost {
@@ -105,7 +110,7 @@ pub struct Decided {
     pub lacked: Vec<Missed>,
     /// The frames that the kernel did not have by half of their round, as where a neighbour is not connected.
     pub unsent: Vec<Missed>,
-    /// Whether the log is on the disk.
+    /// Whether the disk has the log: false where the decision is told as soon as it is known, true where the spool has it.
     pub log_stored: bool,
     /// The receipt of this node, in base64.
     pub receipt: String,
@@ -120,6 +125,17 @@ pub struct Gone {
     pub first: u32,
     /// The last run.
     pub last: u32,
+}
+
+/// A run whose log is on the disk.
+#[derive(Debug, Clone, Serialize)]
+pub struct Stored {
+    /// The id of the system, 64 hexadecimal digits.
+    pub system: String,
+    /// The number of the run.
+    pub run: u32,
+    /// The id of the run, 64 hexadecimal digits.
+    pub run_id: String,
 }
 
 /// Proposals that are lost.
@@ -238,7 +254,7 @@ pub struct Spool {
     pub bytes: i64,
     /// Those that no watcher has acknowledged, or not each.
     pub waiting: i64,
-    /// Those that were not on the disk when their decision was told.
+    /// Those that the disk refused, or did not take in 10 s.
     pub refused: u64,
     /// Those that wait in memory for the disk.
     pub unstored: i64,
@@ -360,6 +376,7 @@ mod tests {
             Line::Refused { refused: "no".into() },
             Line::Decided { decided: decided(Some(close())).into() },
             Line::Decided { decided: Decided { proposer: None, ..decided(None) }.into() },
+            Line::Stored { stored: Stored { system: id(), run: 7, run_id: id() } },
             Line::Lost { lost: Lost { system: id(), proposals: proposals(), why: "passed".into() } },
             Line::Missed { missed_decisions: u64::MAX },
             Line::MissedRuns { missed_runs: Gone { system: id(), first: 3, last: 7 } },

@@ -42,6 +42,7 @@ pub struct Counts {
     pub steps: IntGauge,
     pub round: Histogram,
     pub decision: Histogram,
+    pub log: Histogram,
     pub spool_bytes: IntGauge,
     pub spool_logs: IntGauge,
     pub spool_waiting: IntGauge,
@@ -144,15 +145,15 @@ impl Counts {
             steps: make.gauge("clock_steps", "How often the clock was set to another time."),
             round: make.histogram("round", "From the beginning of a round by the clock to its end.", round_ms),
             decision: make.histogram("decision", "From the beginning of a run by the clock to the decision.", round_ms),
+            log: make.histogram("log", "From the beginning of a run by the clock to its log on the disk.", round_ms),
             spool_bytes: make.gauge("spool_bytes", "Bytes of the logs and the decisions that are kept."),
             spool_logs: make.gauge("spool_logs", "Logs that are kept."),
             spool_waiting: make.gauge("spool_waiting", "Logs that no watcher has acknowledged, or not each."),
-            spool_refused: make
-                .counter("spool_refused_total", "Logs that were not on the disk when their decision was told."),
+            spool_refused: make.counter("spool_refused_total", "Logs that the disk refused, or did not take in 10 s."),
             spool_given_up: make.counter("spool_given_up_total", "Acknowledged logs that went before their time."),
             spool_stuck: make.gauge("spool_stuck", "Logs that are passed by: they can't be handed to a watcher."),
             spool_unstored: make.gauge("spool_unstored", "Logs that wait in memory for the disk."),
-            spool_late: make.counter("spool_late_total", "Logs that the disk took after their decision was told."),
+            spool_late: make.counter("spool_late_total", "Logs of those refused that the disk took later."),
             spool_lost: make
                 .counter("spool_lost_total", "Logs that are lost: the disk did not take them for too long."),
             unkept: make

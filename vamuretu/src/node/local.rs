@@ -21,7 +21,7 @@ use tokio::sync::broadcast::{error::RecvError, Receiver};
 use tokio::sync::{OwnedSemaphorePermit, Semaphore};
 use tokio::time::{timeout, timeout_at, Instant};
 
-use super::answers::{self, Decided, Gone, Line, Lost, Proposal, Status};
+use super::answers::{self, Decided, Gone, Line, Lost, Proposal, Status, Stored};
 use super::counts::Counts;
 use super::nodes::Nodes;
 use super::runs::Outcome;
@@ -42,8 +42,8 @@ const MOST_WRITING: Duration = Duration::from_secs(5);
 const MOST_LISTENERS: usize = 32;
 /// How many others there may be: for one more the oldest is closed.
 const MOST_ASKERS: usize = 32;
-/// How many of the newest decisions stay in memory, for those who ask for older ones.
-const MOST_NEWEST: usize = 16;
+/// How many of the newest decisions stay in memory, for those who ask for older ones: of runs whose logs the disk has not, too.
+const MOST_NEWEST: usize = 64;
 /// The descriptors of this door.
 pub const DESCRIPTORS: usize = MOST_LISTENERS + MOST_ASKERS + 1;
 
@@ -106,6 +106,12 @@ pub fn decision_line(file: &NodeFile, run: &Run, outcome: &Outcome, is_stored: b
     Line::Decided { decided: decided.into() }.to_string().into()
 }
 
+/// The line that the disk has the log of a run.
+pub fn stored_line(file: &NodeFile, run: &Run) -> Arc<str> {
+    let (system, run_id) = (hex::encode(file.system.id), hex::encode(run.run_id));
+    Line::Stored { stored: Stored { system, run: run.number, run_id } }.to_string().into()
+}
+
 /// The line of proposals that are lost, by their runs.
 pub fn lost_line(file: &NodeFile, lost: &BTreeMap<u32, u8>, why: &str) -> Arc<str> {
     let proposals = lost.iter().map(|(&run, &order)| Proposal { run, value: value_of(file, order.into()) });
@@ -163,6 +169,16 @@ impl Telling {
         }
         // Who listens from here on gets it by the one way or by the other.
         self.tell(line);
+    }
+
+    /// Tells that the disk has the log of a run, whose decision was told. Who listens from here on gets a line of the decision
+    /// that says so.
+    pub fn tell_stored(&self, run: u32, stored: Arc<str>, decided: Arc<str>) {
+        let mut newest = self.newest();
+        if let Some(line) = newest.lines.get_mut(&run) {
+            *line = decided;
+        }
+        self.tell(stored);
     }
 
     /// The newest decisions from a run on, and what has all lines behind them.
@@ -650,6 +666,26 @@ mod tests {
             assert_eq!(lines_of(it, &spool, &telling, 1).await, [decided(7).to_string()]);
         }
         assert_eq!(lines_of(&mut from(Some(4)), &spool, &telling, 1).await, [decided(4).to_string()]);
+        end(spool);
+    }
+
+    #[tokio::test]
+    async fn who_listens_hears_once_that_a_log_is_stored() {
+        let (spool, telling, places) = (spool("stored", 0, 99, 1 << 20), telling(), Arc::new(Semaphore::new(9)));
+        let from = |run| Listening::new(run, &telling, places.clone().try_acquire_owned().expect("a place"));
+        let [first, stored, second]: [Arc<str>; 3] = ["decided", "stored", "decided and stored"].map(Arc::from);
+        let (mut all, mut before) = (from(None), from(Some(5)));
+        telling.tell_decided(5, first.clone());
+        assert_eq!(lines_of(&mut before, &spool, &telling, 1).await, [first.to_string()]);
+        telling.tell_stored(5, stored.clone(), second.clone());
+        assert_eq!(lines_of(&mut before, &spool, &telling, 1).await, [stored.to_string()]);
+        assert_eq!(lines_of(&mut all, &spool, &telling, 2).await, [first.to_string(), stored.to_string()]);
+        let mut behind = from(Some(5));
+        assert_eq!(lines_of(&mut behind, &spool, &telling, 1).await, [second.to_string()]);
+        telling.tell(Arc::from("next"));
+        for it in [&mut all, &mut before, &mut behind] {
+            assert_eq!(lines_of(it, &spool, &telling, 1).await, ["next"]);
+        }
         end(spool);
     }
 

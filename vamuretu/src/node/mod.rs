@@ -60,8 +60,8 @@ const MOST_LEAD_MS: i64 = 200;
 const MOST_AHEAD: u32 = 1024;
 /// The least threads of the network: one that waits holds up no other.
 const LEAST_THREADS: usize = 2;
-/// The most decisions that wait for an application.
-const MOST_DECISIONS: usize = 256;
+/// The most lines that wait for an application: two for each run.
+const MOST_LINES: usize = 512;
 /// The least bytes of a queue to a neighbour.
 const LEAST_QUEUE: usize = 1 << 20;
 /// The stack of the thread of a run.
@@ -162,7 +162,7 @@ impl Shared {
             links,
             inboxes: Inboxes::default(),
             longest_frame,
-            proposals: Mutex::default(),
+            proposals: Mutex::new(Proposals { newest: next.checked_sub(1), orders: BTreeMap::new() }),
             telling: Telling::new(file.system.id, decisions.clone()),
             gather: file.devices.as_ref().map(|_| Gather::new(gather::Look::BY_LIBRARY, next)),
             guard: Arc::new(Guard::new(file.clock)),
@@ -195,13 +195,22 @@ impl Shared {
         gather.open(Opened::from(run), begins + rounds + self.file.clock.period());
     }
 
-    /// Tells the decision of a run: applications its line, and neighbours and devices the receipt.
-    fn tell_decided(&self, run: &Run, outcome: &Outcome, is_stored: bool) {
-        let line = local::decision_line(&self.file, run, outcome, is_stored);
-        self.telling.tell_decided(run.number, line.clone());
+    /// Tells the decision of a run, whose log the disk has not: applications its line, and neighbours and devices the receipt.
+    fn tell_decided(&self, run: &Run, outcome: &Outcome) {
+        self.telling.tell_decided(run.number, local::decision_line(&self.file, run, outcome, false));
         self.links.hand_on(run.number, &outcome.receipt);
         let _ = self.offer(self.file.node.number, run.number, &outcome.receipt);
-        self.spool.keep_line(run.number, &line);
+    }
+
+    /// What tells that the disk has the log of a run, and keeps the line of the decision for those who ask later.
+    fn told_when_stored(self: &Arc<Shared>, run: &Run, outcome: &Outcome) -> impl FnOnce() + Send + 'static {
+        let (shared, number) = (self.clone(), run.number);
+        let stored = local::stored_line(&self.file, run);
+        let decided = local::decision_line(&self.file, run, outcome, true);
+        move || {
+            shared.telling.tell_stored(number, stored, decided.clone());
+            shared.spool.keep_line(number, &decided);
+        }
     }
 
     /// Notes that the node is at work, which the system's manager is told.
@@ -333,7 +342,7 @@ impl Scheduler {
         let shared = &self.shared;
         if let Some(now_ms) = look.believed_ms {
             let opens_ms = now_ms.saturating_add(shared.least_lead_ms());
-            let missed = self.passing.pass(opens_ms, self.keeper.mark(), shared.systems.runs(), &shared.file.clock);
+            let missed = self.passing.pass(opens_ms, self.keeper.newest(), shared.systems.runs(), &shared.file.clock);
             shared.counts.missed.inc_by(missed.into());
             shared.lose_below(self.passing.next(), PASSED);
             shared.gather.iter().for_each(|gather| gather.pass(self.passing.next()));
@@ -368,14 +377,14 @@ impl Scheduler {
     /// The next run by a look at the clock. If there is none, the node goes on only where the mark is not the last run: the
     /// clock may be wrong.
     fn next_run(&self, look: &Look) -> Result<Option<NextRun>, End> {
-        let (shared, mark) = (&self.shared, self.keeper.mark());
+        let (shared, mark) = (&self.shared, self.keeper.newest());
         let last = u32::try_from(shared.systems.runs() - 1).unwrap_or(u32::MAX);
         if mark.map_or(false, |mark| mark >= last) {
             return Err(End::over("the system has no further run"));
         }
         let next = shared.next_run(mark, look.now_ms).filter(|next| next.number <= last);
         let why = match next {
-            Some(next) => waits::of_mark(mark, next.begins, look.now_ms, &shared.file.clock),
+            Some(next) => waits::of_mark(mark, next.begins, look.now_ms, self.keeper.block(), &shared.file.clock),
             None => Some(Waits::Behind { last }),
         };
         let prepared = self.prepared.as_ref().map(|run| run.number);
@@ -425,7 +434,8 @@ impl Scheduler {
         let node = Node::of_keys(&run.header, own, keys, order)
             .map_err(|told| End::fault(&shared.file.node.state, format!("run {number}: {told}")))?;
         shared.counts.newest.set(number.into());
-        shared.counts.sets_left.set((shared.systems.runs() / shared.systems.slots()) as i64 - 1 - i64::from(run.set));
+        let sets = shared.systems.runs() / shared.systems.slots();
+        shared.counts.sets_left.set(sets as i64 - 1 - i64::from(run.set.number));
         if let Some(left) = self.life.alarm(shared.systems.runs(), number) {
             tracing::error!(alarm = "life", run = number, left, "few runs are left: the next system has to be ready");
         }
@@ -443,8 +453,8 @@ impl Scheduler {
     }
 }
 
-/// Makes a run, keeps its log, and tells its decision. Tells whether there is one.
-fn play(shared: &Shared, run: &Run, node: Node, inbox: &Inbox, begins: Instant) -> bool {
+/// Makes a run, tells its decision, and keeps its log. Tells whether there is a decision.
+fn play(shared: &Arc<Shared>, run: &Run, node: Node, inbox: &Inbox, begins: Instant) -> bool {
     thread::sleep(begins.saturating_duration_since(Instant::now()));
     // A node that has not begun signs nothing, and one that begins late would count as faulty.
     if begins.elapsed() > Duration::from_millis(u64::from(shared.file.clock.round_ms) / 4) {
@@ -459,18 +469,8 @@ fn play(shared: &Shared, run: &Run, node: Node, inbox: &Inbox, begins: Instant) 
     let is_decided = ended.is_ok();
     match ended {
         Ok(outcome) => {
-            let keeping = shared.spool.keep(run.number, &outcome.log);
-            let is_stored = play.linger_for(|most| keeping.wait(most));
-            shared.counts.decision.observe(begins.elapsed().as_secs_f64());
-            shared.counts.decided.inc();
-            let (late, doubt) = (outcome.known.late(run.traitors), outcome.known.doubt(run.traitors));
-            shared.counts.late.inc_by(late.is_some().into());
-            shared.counts.worthless.inc_by(doubt.is_some().into());
-            let (lacked, unsent, holds) = (outcome.known.lacked.len(), outcome.known.unsent.len(), doubt.is_none());
-            tracing::info!(
-                run = run.number, order = outcome.order, holds, lacked, unsent, late = ?late, stored = is_stored, "decided"
-            );
-            shared.tell_decided(run, &outcome, is_stored);
+            tell(shared, run, &outcome, begins);
+            keep(shared, run, &mut play, &outcome, begins);
             play.linger();
         }
         Err(told) => {
@@ -480,6 +480,31 @@ fn play(shared: &Shared, run: &Run, node: Node, inbox: &Inbox, begins: Instant) 
     }
     shared.inboxes.close(inbox);
     is_decided
+}
+
+/// Tells a decision, and counts it.
+fn tell(shared: &Shared, run: &Run, outcome: &Outcome, begins: Instant) {
+    shared.tell_decided(run, outcome);
+    shared.counts.decision.observe(begins.elapsed().as_secs_f64());
+    shared.counts.decided.inc();
+    let (late, doubt) = (outcome.known.late(run.traitors), outcome.known.doubt(run.traitors));
+    shared.counts.late.inc_by(late.is_some().into());
+    shared.counts.worthless.inc_by(doubt.is_some().into());
+    let (lacked, unsent, holds) = (outcome.known.lacked.len(), outcome.known.unsent.len(), doubt.is_none());
+    tracing::info!(run = run.number, order = outcome.order, holds, lacked, unsent, late = ?late, "decided");
+}
+
+/// Hands the log of a run to the disk, and waits until that has it or has taken too long.
+fn keep(shared: &Arc<Shared>, run: &Run, play: &mut Play, outcome: &Outcome, begins: Instant) {
+    match play.log() {
+        Ok(log) => {
+            let keeping = shared.spool.keep(run.number, &log, shared.told_when_stored(run, outcome));
+            if play.linger_for(|most| keeping.wait(most)) {
+                shared.counts.log.observe(begins.elapsed().as_secs_f64());
+            }
+        }
+        Err(told) => tracing::error!(alarm = "spool", run = run.number, %told, "the log was not kept"),
+    }
 }
 
 /// Says to the system's manager that the nodes are alive, while the scheduler of each is at work.
@@ -605,13 +630,13 @@ impl Started {
         let systems = Systems::open(&file.system)?;
         let first = systems.run(0)?;
         check(file, &systems, &first)?;
-        let keeper = Keeper::open(file)?;
-        let next = keeper.mark().map_or(0, |mark| mark.saturating_add(1));
+        let keeper = Keeper::open(file, systems.slots() as u32)?;
+        let next = keeper.newest().map_or(0, |mark| mark.saturating_add(1));
         let shared = Arc::new(Shared::new(file, systems, &first, next, decisions)?);
         ahead::start(&shared)?;
         gather::start(&shared)?;
         start(runtime, &shared)?;
-        tracing::info!(node = file.node.number, system = %hex::encode(file.system.id), mark = ?keeper.mark(), "started");
+        tracing::info!(node = file.node.number, system = %hex::encode(file.system.id), mark = ?keeper.newest(), "started");
         let (passing, prepared, under_way) = (Passing::default(), None, vec![]);
         let life = life::Told::default();
         let scheduler = Scheduler { shared: shared.clone(), keeper, passing, life, prepared, under_way };
@@ -621,6 +646,7 @@ impl Started {
     /// Goes on until the node is told to end, or no run is left. Then it ends the runs under way, and hands out their logs.
     fn go_to_end(mut self) -> Result<(), End> {
         let ended = self.scheduler.go_on();
+        let _locks = self.scheduler.keeper.end();
         // Runs under way may take longer than a sign of life may be away.
         while self.scheduler.under_way.iter().any(|run| !run.is_finished()) {
             self.shared.be_alive();
@@ -638,7 +664,7 @@ impl Started {
 
 /// The command `node`.
 pub fn run(file: &NodeFile) -> Result<(), End> {
-    let (runtime, decisions) = (runtime()?, broadcast::channel(MOST_DECISIONS).0);
+    let (runtime, decisions) = (runtime()?, broadcast::channel(MOST_LINES).0);
     let present = Started::new(&runtime, file, &decisions)?;
     let next = nodes::next_of(&runtime, file, &decisions);
     let shared = std::iter::once(&present).chain(&next).map(|node| node.shared.clone());

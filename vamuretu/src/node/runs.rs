@@ -18,13 +18,14 @@ use crate::systems::Run;
 
 /// How often a run looks whether a neighbour was connected anew: so many times in a round.
 const LOOKS: u32 = 8;
-/// How long to wait where memory was refused, and where a frame has not left.
+/// How long to wait where memory was refused.
 const REFUSED: Duration = Duration::from_millis(1);
+/// How long to wait where a frame has not left, at first: twice as long each time, up to the second.
+const LEAVES: [Duration; 2] = [Duration::from_micros(100), Duration::from_millis(1)];
 
 /// What a run has come to.
 pub struct Outcome {
     pub order: u32,
-    pub log: Vec<u8>,
     pub receipt: Vec<u8>,
     pub known: Known,
 }
@@ -206,22 +207,28 @@ impl<'a> Play<'a> {
             self.round(round)?;
         }
         until_done(|| self.node.finish())?;
-        let (order, log) = (self.node.order()?, until_done(|| self.node.log())?);
-        let receipt = until_done(|| self.node.receipt())?;
+        let (order, receipt) = (self.node.order()?, until_done(|| self.node.receipt())?);
         self.know_what_left();
-        Ok(Outcome { order, log, receipt, known: std::mem::take(&mut self.known) })
+        Ok(Outcome { order, receipt, known: std::mem::take(&mut self.known) })
+    }
+
+    /// The log of a run whose rounds were made.
+    pub fn log(&mut self) -> Result<Vec<u8>, Fault> {
+        until_done(|| self.node.log())
     }
 
     /// Notes which frames did not leave in time, once that is known, and whether the clock was set.
     fn know_what_left(&mut self) {
         let (begins, length) = (self.begins, self.length);
         let due = move |round| Self::due(begins, length, round);
+        let [mut wait, most] = LEAVES;
         loop {
             self.sent.again(self.open_round());
             if !self.sent.is_pending(due) {
                 break;
             }
-            thread::sleep(REFUSED);
+            thread::sleep(wait);
+            wait = most.min(wait * 2);
         }
         self.known.unsent = self.sent.unsent(due);
         self.shared.counts.unsent.inc_by(self.known.unsent.len() as u64);

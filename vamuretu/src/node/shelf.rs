@@ -80,7 +80,7 @@ impl Shelf {
         let is_stored = put.is_ok();
         if !self.logs.is_put(run, bytes.len(), put) && is_stored {
             self.logs.counts.spool_late.inc();
-            tracing::warn!(run, "the log is on the disk, after its decision was told");
+            tracing::warn!(run, "the log is on the disk at last");
         }
         is_stored
     }
@@ -100,9 +100,9 @@ impl Shelf {
         }
     }
 
-    /// Puts what is kept of a decision, if there is room, and no log waits for the disk.
+    /// Puts what is kept of a decision, if there is room, and the disk has refused no log.
     fn keep(&self, kind: Kept, run: u32, bytes: &[u8]) {
-        let has_room = self.logs.all_unstored().is_empty() && self.make_room((bytes.len() + disk::SEAL) as u64);
+        let has_room = !self.logs.has_refused() && self.make_room((bytes.len() + disk::SEAL) as u64);
         let put = match has_room {
             true => disk::put_sealed(&self.logs.kept_path(kind, run), 0o644, bytes),
             false => Err(io::Error::other("logs take the room")),

@@ -23,7 +23,7 @@ use super::counts::Counts;
 use super::shelf::{self, Job, Shelf};
 use crate::config::NodeFile;
 use crate::disk::{self, Lock};
-use crate::watch::judge::{pack, unpack};
+use crate::watch::judge::{pack_log, unpack};
 use crate::End;
 
 /// How often a log that can't be handed over is tried before it is passed by, how long after the last time, and how often then.
@@ -32,7 +32,7 @@ const BETWEEN_TRIES: Duration = Duration::from_millis(if cfg!(test) { 30 } else 
 const PASSED_BY: Duration = Duration::from_secs(3600);
 /// How often the time until the next try is doubled at most for a log behind which connections end.
 const MOST_DOUBLED: u32 = 7;
-/// How long a run waits for the disk.
+/// How long the disk may take until a log counts as refused.
 const MOST_PUT: Duration = Duration::from_secs(10);
 /// The most bytes of the logs that the disk has not taken yet, and of the decisions.
 const MOST_UNSTORED: usize = 16 << 20;
@@ -115,9 +115,10 @@ struct Waiting {
     wanted: BTreeMap<usize, Tries>,
 }
 
-/// A log that the disk has not taken yet, and who waits for that.
+/// A log that the disk has not taken yet, what is done when it has, and who waits for what comes of the first try.
 struct Unstored {
     bytes: Arc<[u8]>,
+    stored: Box<dyn FnOnce() + Send>,
     waits: Option<SyncSender<io::Result<()>>>,
 }
 
@@ -277,18 +278,23 @@ impl Logs {
         self.all().unstored.keys().copied().collect()
     }
 
+    /// Whether the disk has refused a log that waits.
+    pub fn has_refused(&self) -> bool {
+        self.all().unstored.values().any(|log| log.waits.is_none())
+    }
+
     /// Notes what came of putting a log to the disk, and tells who waits for that. Tells whether somebody does.
     pub fn is_put(&self, run: u32, bytes: usize, put: io::Result<()>) -> bool {
-        let is_stored = put.is_ok();
         let mut all = self.all();
         let waits = all.unstored.get_mut(&run).and_then(|log| log.waits.take());
-        if is_stored {
-            all.unstored.remove(&run);
+        let stored = if put.is_ok() { all.unstored.remove(&run) } else { None };
+        if put.is_ok() {
             all.put(run, bytes as u64, self.watchers.len());
         }
         drop(all);
         self.tell();
-        if is_stored {
+        if let Some(stored) = stored {
+            (stored.stored)();
             self.come.notify_waiters();
         }
         waits.map_or(false, |waits| waits.send(put).is_ok())
@@ -413,16 +419,17 @@ impl Spool {
         Ok(Spool { logs, jobs, reads: Arc::new(Semaphore::new(1)), _lock })
     }
 
-    /// Hands the log of a run to the disk. Where the spool has no room, the oldest logs go that each watcher has acknowledged.
-    pub fn keep(&self, run: u32, log: &[u8]) -> Keeping<'_> {
-        let put = pack(log).map(|bytes| self.put(run, bytes.into()));
+    /// Hands the log of a run to the disk. Once the disk has it, whenever that is, `stored` is called by the thread of the disk.
+    /// Where the spool has no room, the oldest logs go that each watcher has acknowledged.
+    pub fn keep(&self, run: u32, log: &[u8], stored: impl FnOnce() + Send + 'static) -> Keeping<'_> {
+        let put = pack_log(log).map(|bytes| self.put(run, bytes.into(), Box::new(stored)));
         Keeping { counts: &self.logs.counts, run, since: Instant::now(), put }
     }
 
     /// Has the thread of the disk put a log. It is held in memory until then, as long as there is room.
-    fn put(&self, run: u32, bytes: Arc<[u8]>) -> Receiver<io::Result<()>> {
+    fn put(&self, run: u32, bytes: Arc<[u8]>, stored: Box<dyn FnOnce() + Send>) -> Receiver<io::Result<()>> {
         let (waits, put) = sync_channel(1);
-        for lost in self.logs.all().hold(run, Unstored { bytes, waits: Some(waits) }) {
+        for lost in self.logs.all().hold(run, Unstored { bytes, stored, waits: Some(waits) }) {
             self.logs.counts.spool_lost.inc();
             tracing::error!(alarm = "spool", run = lost, "the log is lost: the disk did not take it");
         }
@@ -444,7 +451,7 @@ impl Spool {
 
     /// Keeps the line of a decision.
     pub fn keep_line(&self, run: u32, line: &str) {
-        match pack(line.as_bytes()) {
+        match pack_log(line.as_bytes()) {
             Ok(bytes) => self.keep_decision(Kept::Line, run, bytes),
             Err(_) => self.logs.counts.unkept.inc(),
         }
@@ -584,7 +591,8 @@ pub struct Keeping<'a> {
 }
 
 impl Keeping<'_> {
-    /// Waits so long at most. Tells whether the log is on the disk, once that is known or has taken too long.
+    /// Waits so long at most. Tells whether the log is on the disk, once that is known or has taken too long. One that is not
+    /// raises an alarm.
     pub fn wait(&self, most: Duration) -> Option<bool> {
         let put = match &self.put {
             Err(told) => Err(told.to_string()),
@@ -647,7 +655,7 @@ pub mod tests {
 
     /// Keeps a log, and waits for the disk.
     fn keep(spool: &Spool, run: u32, log: &[u8]) -> bool {
-        spool.keep(run, log).wait(PATIENCE).expect("the disk has an answer")
+        spool.keep(run, log, || ()).wait(PATIENCE).expect("the disk has an answer")
     }
 
     fn await_that(holds: impl Fn() -> bool) {
@@ -712,12 +720,22 @@ pub mod tests {
     #[test]
     fn what_the_disk_did_not_take_is_put_later() {
         let spool = spool("later", 1, 99, 1 << 20);
-        let waiting = spool.logs.folder.join(WAITING);
+        let (waiting, (stored, told)) = (spool.logs.folder.join(WAITING), channel());
+        let keep = |run: u32| {
+            let stored = stored.clone();
+            let keeping = spool.keep(run, &log(run as u8), move || stored.send(run).expect("a test"));
+            keeping.wait(PATIENCE).expect("the disk has an answer")
+        };
+        assert!(keep(4));
+        assert_eq!(told.recv_timeout(PATIENCE), Ok(4));
+        spool.acknowledge(0, 4);
+        await_that(|| spool.waiting() == 0);
         fs::remove_dir(&waiting).expect("no folder");
-        assert!(!keep(&spool, 5, &log(5)) && wanted(&spool, 0).is_empty());
+        assert!(!keep(5) && wanted(&spool, 0).is_empty() && told.try_recv().is_err());
         assert_eq!((spool.waiting(), spool.logs.counts.spool_unstored.get()), (1, 1));
         fs::create_dir(&waiting).expect("a folder");
         await_that(|| wanted(&spool, 0) == [5]);
+        assert_eq!((told.recv_timeout(PATIENCE), told.try_recv().is_err()), (Ok(5), true), "once");
         let counts = &spool.logs.counts;
         assert_eq!((counts.spool_unstored.get(), counts.spool_late.get(), counts.spool_lost.get()), (0, 1, 0));
         end(spool);
@@ -726,7 +744,7 @@ pub mod tests {
     #[test]
     fn what_waits_in_memory_has_a_bound() {
         let mut all = All::default();
-        let of = |bytes: usize| Unstored { bytes: vec![0; bytes].into(), waits: None };
+        let of = |bytes: usize| Unstored { bytes: vec![0; bytes].into(), stored: Box::new(|| ()), waits: None };
         assert!(all.hold(1, of(MOST_UNSTORED / 2)).is_empty() && all.hold(2, of(MOST_UNSTORED / 2)).is_empty());
         assert_eq!((all.hold(3, of(1)), all.hold(4, of(2 * MOST_UNSTORED))), (vec![1], vec![2, 3]));
         assert_eq!((all.unstored.len(), all.newest), (1, Some(4)));

@@ -8,8 +8,8 @@ use crate::config::Clock;
 
 /// How often an alarm says that runs were missed.
 const ALARM_EACH: Duration = Duration::from_secs(60);
-/// A mark that is ahead of the clock by more periods than these is said.
-const MOST_PERIODS: i64 = 2;
+/// A mark that is ahead of the clock by more periods than these is said; of a block those of its other runs are added.
+const MOST_PERIODS: u32 = 2;
 
 /// Why no run begins.
 #[derive(Debug, Clone, Copy, PartialEq, Eq)]
@@ -44,9 +44,9 @@ impl fmt::Display for Waits {
     }
 }
 
-/// Why the next run does not begin soon, by its beginning and by the mark.
-pub fn of_mark(mark: Option<u32>, next_ms: i64, now_ms: i64, clock: &Clock) -> Option<Waits> {
-    let most = MOST_PERIODS.saturating_mul(clock.period_ms.into());
+/// Why the next run does not begin soon, by its beginning and by the mark, which serves a block of so many runs.
+pub fn of_mark(mark: Option<u32>, next_ms: i64, now_ms: i64, block: u32, clock: &Clock) -> Option<Waits> {
+    let most = i64::from(MOST_PERIODS + block - 1).saturating_mul(clock.period_ms.into());
     let mark = mark.filter(|_| next_ms.saturating_sub(now_ms) > most)?;
     Some(Waits::Mark { mark, next_ms })
 }
@@ -129,9 +129,11 @@ mod tests {
 
     #[test]
     fn a_mark_that_is_ahead_is_said() {
-        assert_eq!(of_mark(Some(7), 1200, 1000, &CLOCK), None);
-        assert_eq!(of_mark(Some(7), 1201, 1000, &CLOCK), Some(Waits::Mark { mark: 7, next_ms: 1201 }));
-        assert_eq!(of_mark(None, i64::MAX, i64::MIN, &CLOCK), None, "a system that has not begun");
+        assert_eq!(of_mark(Some(7), 1200, 1000, 1, &CLOCK), None);
+        assert_eq!(of_mark(Some(7), 1201, 1000, 1, &CLOCK), Some(Waits::Mark { mark: 7, next_ms: 1201 }));
+        assert_eq!(of_mark(Some(7), 1500, 1000, 4, &CLOCK), None, "what is left of a block");
+        assert_eq!(of_mark(Some(7), 1501, 1000, 4, &CLOCK), Some(Waits::Mark { mark: 7, next_ms: 1501 }));
+        assert_eq!(of_mark(None, i64::MAX, i64::MIN, 1, &CLOCK), None, "a system that has not begun");
         let said = Waits::Mark { mark: 7, next_ms: 1_798_761_600_000 }.to_string();
         assert!(said.ends_with("until 2027-01-01T00:00:00.000Z"), "{said}");
     }

@@ -245,6 +245,11 @@ pub fn pack(bytes: &[u8]) -> io::Result<Vec<u8>> {
     zstd.compress(bytes)
 }
 
+/// Compresses the log of one node, or less: a search over a long window finds no more in it, and takes three times as long.
+pub fn pack_log(bytes: &[u8]) -> io::Result<Vec<u8>> {
+    zstd::bulk::compress(bytes, LEVEL)
+}
+
 /// What was compressed, if it has at most so many bytes. No more than these are ever held.
 pub fn unpack(bytes: &[u8], most: usize) -> io::Result<Vec<u8>> {
     zstd::bulk::decompress(bytes, most)
