@@ -3,21 +3,28 @@
 Four nodes go on, and three of them have the door. A device here is a small client of that door, which believes no node: it has the
 id of the system, and asks the program (`receipts`) about what comes. What it gets is in ascending order, is what all nodes decided,
 and is not shown any more once it is bent. Runs from before a node was killed come from its spool, to devices and to local programs,
-and those that it missed are told. A neighbour whose receipts are wrong is counted, and keeps no decision back. A node that hears
+and those that it missed are told. A valve (examples/device/obey.py) does not open by a node that lies to it, and does by the next
+one. A neighbour whose receipts are wrong is counted, and keeps no decision back. A node that hears
 nobody hands out nothing. Devices that do not read, are too many, or are none of those named, delay no node.
 """
 import contextlib
 import hashlib
 import json
 import os
+import socket
 import ssl
 import struct
+import subprocess
+import sys
 import tempfile
+import threading
 import time
 
-from attack_lab import Attacked, Lab, await_that, message, plain, read_message, wants
+from attack_lab import Attacked, Lab, await_that, going, message, plain, read_message, wants
+from bindings import build_libraries
 from cargo_built import build_program
 from controllers import ORDERS, PATIENCE, Wrong, named
+from embed import EMBED, TOP, source
 from programs import run
 from wires import free_ports
 
@@ -30,6 +37,8 @@ DOORS, OTHER = (0, 1, 2), 3
 NODES = range(4)
 # How many decisions a device hears, and how many connections a device may have.
 HEARD, PLACES = 8, 2
+# How many periods a valve hears a liar first, and in how many of them it may close when nothing opens it any more.
+LIES, CLOSES = 12, 20
 # A run that is far ahead.
 FAR = 1_000_000
 # The most KiB that the memory of a node may grow by under devices that do not read.
@@ -41,6 +50,7 @@ class Decision:
     """A decision as it comes from the door."""
 
     def __init__(self, body):
+        self.body = body
         self.run, self.proposer, self.order, length = struct.unpack(">IBBI", body[:10])
         self.admission, self.receipts = body[10 : 10 + length], body[10 + length :]
 
@@ -192,6 +202,95 @@ def kept(made):
     wants(gone[0]["first"] <= missed <= gone[0]["last"] and missed not in told, f"{gone} do not name run {missed}")
 
 
+class Liar:
+    """A node that lies to devices: it has the key of node 0, and bends what the door of node 0 says."""
+
+    def __init__(self, made, old):
+        self.made, self.old, self.said = made, old, 0
+        self.context = ssl.SSLContext(ssl.PROTOCOL_TLS_SERVER)
+        self.context.load_cert_chain(made.path(f"{named(0)}.key"))
+        self.listener = socket.create_server(("127.0.0.1", 0))
+        self.address = "%s:%d" % self.listener.getsockname()
+        threading.Thread(target=self.take, daemon=True).start()
+
+    def take(self):
+        with contextlib.suppress(OSError):
+            while True:
+                threading.Thread(target=self.tell, args=[self.listener.accept()[0]], daemon=True).start()
+
+    def tell(self, stream):
+        """Tells a device lies, for each decision of node 0 one of them in turn."""
+        with contextlib.suppress(OSError, Wrong), self.context.wrap_socket(stream, server_side=True) as stream:
+            read_message(stream)
+            device = Device(self.made, 0)
+            while True:
+                kind, body = device.next()
+                stream.sendall(message(kind, self.bent(body) if kind == DECISION else body))
+
+    def bent(self, body):
+        """A decision that is bent, or an old one in its place: each would open the valve if it counted."""
+        front, told = body[:5] + bytes([ORDERS["open"]]), Decision(body)
+        self.said += 1
+        return [
+            front + body[6:],
+            front + body[6 : len(body) - len(told.receipts) // 2],
+            self.old,
+            body[:4] + self.old[4:],
+        ][self.said % 4]
+
+    def close(self):
+        self.listener.close()
+
+
+class Valve:
+    """A valve (examples/device/obey.py) that opens by `open`, and asks these addresses."""
+
+    def __init__(self, made, addresses, libraries):
+        self.file = made.path("valve")
+        words = [os.path.join(TOP, "examples", "device", "obey.py"), self.file, made.id, str(made.start), str(made.plan.period)]
+        words += [str(ORDERS["open"]), *addresses, "--key", made.path("device.key"), "--pins", *(made.pins[named(it)] for it in NODES)]
+        own = {"PYTHONPATH": os.path.join(EMBED, "python"), "VAMURETU_LIBRARIES": libraries}
+        with open(made.path("valve.said"), "wb") as said:
+            self.process = subprocess.Popen([sys.executable, "-B", *words], stderr=said, env={**os.environ, **own})
+
+    def is_open(self):
+        with contextlib.suppress(FileNotFoundError), open(self.file, encoding="ascii") as file:
+            return file.read().strip() == "open"
+        return False
+
+    def end(self):
+        self.process.kill()
+        self.process.wait()
+
+
+def obeyed(made):
+    """A valve does not open by a node that lies to it. It does by the next one, once m + 1 nodes show that it opens, and closes again."""
+    second, libraries = made.nodes[1], made.path("libraries")
+    build_libraries(libraries, source("heap.c"))
+    device = Device(made, 1)
+    number = second.ask(ask="propose", value={"name": "open"})["run"]
+    old = next(it for it in device.until(number)[0] if it.run == number)
+    device.close()
+    wants(old.order == ORDERS["open"], f"node 1 proposed open in run {number}, and {old.order} is shown")
+    made.await_run(number + 8)
+    liar = Liar(made, old.body)
+    valve = Valve(made, [liar.address, f"127.0.0.1:{made.doors[1]}"], libraries)
+    propose = lambda: [made.nodes[it].ask(ask="propose", value={"name": "open"}) for it in NODES]
+    try:
+        await_that(lambda: liar.said >= 3, "the liar is asked")
+        last = made.number_now() + LIES
+        while made.number_now() < last:
+            wants(not valve.is_open(), f"the valve is open by one of {liar.said} lies")
+            time.sleep(0.01)
+        with going(propose, pause=made.plan.period / 2000):
+            await_that(valve.is_open, "the valve opens")
+        await_that(lambda: not valve.is_open(), "the valve closes", CLOSES * made.plan.period / 1000)
+        wants(valve.process.poll() is None, f"the valve has ended with status {valve.process.poll()}")
+    finally:
+        valve.end()
+        liar.close()
+
+
 def admitted(made, number, receipt):
     """The node that a receipt of a run is of, or None where it does not hold."""
     made.header(number)
@@ -273,6 +372,9 @@ def alone(made):
     device.close()
 
 
+TRIALS = (heard, kept, obeyed, neighbour, crowd, alone)
+
+
 def trials(program, tally):
     vamuretu = build_program(tally)
     if vamuretu is None:
@@ -281,7 +383,7 @@ def trials(program, tally):
         wrong = {}
         with Lab(program, vamuretu, slower).system(watcher=False, kind=Doored, **{**TIMES, "period": TIMES["period"] * slower, "round": TIMES["round"] * slower}) as made:
             made.await_run(2)
-            for trial in (heard, kept, neighbour, crowd, alone):
+            for trial in TRIALS:
                 try:
                     trial(made)
                 except (Wrong, OSError) as told:
@@ -290,6 +392,6 @@ def trials(program, tally):
         if not wrong:
             break
         tally.note(f"tried again with longer rounds: {wrong}")
-    for trial in (heard, kept, neighbour, crowd, alone):
+    for trial in TRIALS:
         tally.hold(trial.__doc__.split("\n", maxsplit=1)[0], wrong.get(trial.__name__))
     tally.count(HEARD * len(DOORS))

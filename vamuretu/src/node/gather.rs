@@ -12,7 +12,7 @@ use tokio::sync::futures::Notified;
 use tokio::sync::Notify;
 use vamuretu::RunId;
 
-use super::spool::{Kept, Spool};
+use super::spool::Kept;
 use super::Shared;
 use crate::doors::Seldom;
 use crate::systems::Run;
@@ -321,10 +321,10 @@ impl Gather {
 }
 
 /// Keeps a decision that is shown, for those who ask later.
-fn keep(shared: &Shared, spool: &Spool, body: &[u8]) {
+fn keep(shared: &Shared, body: &[u8]) {
     let run = body.first_chunk().map_or(0, |run| u32::from_be_bytes(*run));
     shared.counts.shown.inc();
-    spool.keep_decision(Kept::Shown, run, body.into());
+    shared.spool.keep_decision(Kept::Shown, run, body.into());
 }
 
 /// Looks at what comes, for ever.
@@ -334,7 +334,7 @@ fn work(shared: &Shared, gather: &Gather) {
             Ok(job) => {
                 let node = job.node;
                 match gather.perform(job) {
-                    Ok(Some(body)) => keep(shared, &shared.spool, &body),
+                    Ok(Some(body)) => keep(shared, &body),
                     Ok(None) => {}
                     Err(_) => shared.refuse_receipt(node),
                 }
