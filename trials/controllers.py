@@ -462,12 +462,12 @@ def decisions_wrong(made, first):
 
 
 def stored_wrong(made, first):
-    """None where each node tells once that the disk has the log of a run, behind its decision, and one that was never killed
-    tells it of each run."""
+    """None where no node tells twice that the disk has the log of a run, and one that was never killed tells it of each run that
+    it has decided, and of no other."""
     for node in made.nodes:
-        told, decided = node.stored, {number for number in node.decided if number < first + RUNS}
-        wrong = [number for number, count in told.items() if count > 1 or number not in node.decided]
-        wrong += decided - {*told} if node.starts == 1 else []
+        told, numbers = node.stored, range(first, first + RUNS)
+        wrong = {number for number, count in told.items() if count > 1}
+        wrong |= {number for number in numbers if (number in told) != (number in node.decided)} if node.starts == 1 else set()
         if wrong:
             return f"node {node.number} tells of the logs of {sorted(wrong)} twice, or not, or of no decision: {dict(told)}"
     return None
