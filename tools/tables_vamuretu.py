@@ -17,7 +17,7 @@ SCHEMA = os.path.join(TOP, "docs", "socket.schema.json")
 FILES = {"NodeFile": "a node", "WatchFile": "a watcher"}
 # What stands for a type in the column of values, and for a number by the end of its name.
 VALUES = {"PathBuf": "path", "SocketAddr": "address and port", "IpAddr": "address", "Pin": "pin", "Id": "64 hexadecimal digits"}
-VALUES |= {"String": "text", "bool": "true or false", "Orders": "table of numbers", "Value": "value"}
+VALUES |= {"String": "text", "bool": "true or false", "Orders": "table of numbers", "Value": "value", "Missed": "frame"}
 UNITS = {"_ms": "milliseconds", "_us": "microseconds", "_s": "seconds", "_ppm": "millionths", "bytes": "bytes", "days": "days"}
 # The least and the greatest number of a type. A greater one than 2^63 - 1 can't stand in TOML.
 NUMBERS = {"u8": (0, 255), "u32": (0, 2**32 - 1), "u64": (0, None), "i64": (None, None)}
@@ -62,37 +62,42 @@ def value_of(item, types):
     if kind in types:
         return " or ".join(f'`"{it.name.lower()}"`' for it in types[kind].members)
     if item.has('deserialize_with = "moment"'):
-        return "moment"
+        return "number or moment"
     told = VALUES.get(kind) or unit_of(item)
     return f"list of {plural(told)}" if item.type.startswith("Vec<") else told
 
 
 def default_of(item):
-    """What holds where the key is not there."""
+    """What holds where the key is not there, or nothing if it is required."""
     told, named = item.parts().get("Default"), item.value_of("default")
     if named:
         return re.search(rf"fn {named}\(\) -> \w+ \{{\s*(\S+)\s*\}}", source("config.rs"))[1]
     may_lack = item.type.startswith("Option<") or item.has("(default)")
-    return told or ("required" if not may_lack else "0" if item.type in NUMBERS else "none")
+    return told or ("" if not may_lack else "0" if item.type in NUMBERS else "none")
+
+
+def row_of_key(name, value, item):
+    """The row of a table or a key: its name, its value with its bounds, and what it is."""
+    parts, default = item.parts(), default_of(item)
+    bounds = parts.get("Bounds") or ("" if item.has("deserialize_with") else MOST.get(item.type, ""))
+    if default:
+        value = f"{value}, optional" if default == "none" else f"{value}, else {default}"
+    return row(name, f"{value}: {bounds}" if bounds else value, parts[""])
 
 
 def rows_of_table(item, whose, types):
     """The row of a table, and those of its keys."""
     kind, is_list = inner(item.type), item.type.startswith("Vec<")
     name = f"[[{item.name}]]" if is_list else f"[{item.name}]"
-    parts, value = item.parts(), "tables" if is_list else VALUES.get(kind, "table")
-    yield row(f"**`{name}`** of {whose}", value, default_of(item), parts.get("Bounds", ""), parts[""])
-    for key in types[kind].members if kind in types else []:
-        parts, value = key.parts(), value_of(key, types)
-        bounds = parts.get("Bounds") or ("" if key.has("deserialize_with") else MOST.get(key.type, ""))
-        yield row(f"`{key.name}`", value, default_of(key), bounds, parts[""])
+    yield row_of_key(f"**`{name}`** of {whose}", "tables" if is_list else VALUES.get(kind, "table"), item)
+    yield from (row_of_key(f"`{it.name}`", value_of(it, types), it) for it in (types[kind].members if kind in types else []))
 
 
 def configuration():
     """A row for each table and each key, those of a node first."""
     types = types_of_files()
     tables = {whose: {it.name: it for it in types[name].members} for name, whose in FILES.items()}
-    yield from (row("Key", "Value", "Without it", "Bounds", "What it is"), "|---|---|---|---|---|")
+    yield from (row("Key", "Value", "What it is"), "|---|---|---|")
     for name in dict.fromkeys(name for of in tables.values() for name in of):
         having = [whose for whose, of in tables.items() if name in of]
         yield from rows_of_table(tables[having[0]][name], "both" if len(having) > 1 else having[0], types)
@@ -101,8 +106,9 @@ def configuration():
 # ---- the socket
 
 
-# The types of members whose own members a section of the page tells.
-TOLD_APART = ("Status", "Value")
+# The types of members whose own members the page tells apart, and the members that it tells once of all objects.
+TOLD_APART = ("Status", "Value", "Missed")
+TOLD_ONCE = ("system", "run", "run_id")
 
 
 def types_of_socket():
@@ -115,10 +121,22 @@ def word_of(request):
     return request.value_of("rename") or request.name.lower()
 
 
+def told_once(item):
+    """The members of an object that the page tells once of all objects which tell of a system or of one of its runs."""
+    names = [it.name for it in item.members]
+    return [name for name in TOLD_ONCE if name in names] if "system" in names and item.name not in TOLD_APART else []
+
+
+def with_told_once(told, item):
+    """What stands in the column of values, with those members of an object that have no row."""
+    names = ", ".join(f"`{it}`" for it in told_once(item))
+    return f"{told} with {names}" if names else told
+
+
 def spelled(item, types, in_request=False):
     """What stands in the column of values for a member."""
     kind = inner(item.type)
-    told = VALUES.get(kind) or ("object" if kind in types else unit_of(item))
+    told = VALUES.get(kind) or (with_told_once("object", types[kind]) if kind in types else unit_of(item))
     told = f"list of {plural(told)}" if item.type.startswith("Vec<") else told
     told = f"{told} or null" if item.type.startswith("Option<") and not item.has("skip_serializing_if") else told
     return f"{told}, or not there" if may_be_away(item, in_request) else told
@@ -127,6 +145,8 @@ def spelled(item, types, in_request=False):
 def members_of(item, types, before=""):
     """The members of an object with their paths, and what is inside of them behind each."""
     for it in item.members:
+        if it.name in told_once(item):
+            continue
         path = f"{before}{it.name}{'[]' if it.type.startswith('Vec<') else ''}"
         yield path, it
         if inner(it.type) in types and inner(it.type) not in TOLD_APART:
@@ -149,7 +169,7 @@ def lines():
     yield from (row("Member", "Value", "What it says"), "|---|---|---|")
     for line in types["Line"].members:
         (path, first), *others = members_of(line, types)
-        yield row(f"**`{path}`**", spelled(first, types), line.parts()[""])
+        yield row(f"**`{path}`**", with_told_once(spelled(first, types), line), line.parts()[""])
         yield from (row(f"`{path}`", spelled(it, types), it.parts()[""]) for path, it in others)
 
 
@@ -235,12 +255,50 @@ def metrics_in(text):
             yield f"{before}{name}{behind}", kind, label or "", text_of(told, text[:found.start()])
 
 
-def metrics(whose):
-    """A row for each metric of a node or a watcher."""
-    yield from (row("Metric", "Type", "What it is"), "|---|---|---|")
-    for name in [*SOURCES_OF_METRICS[whose], *SHARED_METRICS]:
-        for metric, kind, label, said in metrics_in(source(*name)):
-            yield row(f"`{metric}{{{label}}}`" if label else f"`{metric}`", kind, said)
+def metrics_of(names):
+    """The metrics that some sources make."""
+    return [it for name in names for it in metrics_in(source(*name))]
+
+
+def in_status(metric, kind):
+    """Where the status has the number of a metric: the object, and the name in it. Else nothing."""
+    types = types_of_socket()
+    names = {re.sub(r"_u?m?s$", "", path.replace(".", "_")): path for path, _ in members_of(types["Status"], types)}
+    path = names.get(re.sub(r"^vamuretu_|_total$|_seconds$", "", metric))
+    return path.partition(".")[0] if path and "." in path and kind != "histogram" else None
+
+
+def row_of_metric(metric, kind, label, said):
+    """The row of a metric. Of a counter the name tells that it is one."""
+    said = f"Histogram: {said[0].lower()}{said[1:]}" if kind == "histogram" else said
+    return row(f"`{metric}{{{label}}}`" if label else f"`{metric}`", said)
+
+
+def metrics_of_node():
+    """A row for each metric of a node. Where the status has several numbers of one object, they have one row, that of the first."""
+    yield from (row("Metric", "What it is"), "|---|---|")
+    together = {}
+    for it in metrics_of([*SOURCES_OF_METRICS["node"], *SHARED_METRICS]):
+        together.setdefault(in_status(*it[:2]) or it[0], []).append(it)
+    for which, told in together.items():
+        if len(told) == 1:
+            yield row_of_metric(*told[0])
+        else:
+            said = f"What `{which}` of [the status](#the-status) has by these names."
+            yield row(", ".join(f"`{metric}`" for metric, *_ in told), said)
+
+
+def metrics_of_watcher():
+    """A row for each metric that a watcher has and a node has not."""
+    yield from (row("Metric", "What it is"), "|---|---|")
+    yield from (row_of_metric(*it) for it in metrics_of(SOURCES_OF_METRICS["watcher"]))
+
+
+def wrong_metrics():
+    """The metrics whose name tells another type than theirs: that of a counter, and of no other, ends with _total."""
+    for metric, kind, *_ in metrics_of([*SOURCES_OF_METRICS["node"], *SOURCES_OF_METRICS["watcher"], *SHARED_METRICS]):
+        if (kind == "counter") != metric.endswith("_total"):
+            yield f"vamuretu/src: {metric} is a {kind}, which docs/REFERENCE.md does not tell of its name"
 
 
 # ---- the alarms
@@ -274,8 +332,8 @@ TABLES = {
     "### Requests": requests,
     "### Lines": lines,
     "### The status": status,
-    "### Metrics of a node": lambda: metrics("node"),
-    "### Metrics of a watcher": lambda: metrics("watcher"),
+    "### Metrics of a node": metrics_of_node,
+    "### Metrics of a watcher": metrics_of_watcher,
 }
 
 
@@ -283,4 +341,5 @@ def wrong():
     """What is wrong with the sources: a key, a member or a metric that has no comment, and alarms that a page does not name."""
     for heading, rows in TABLES.items():
         yield from (f"vamuretu/src: a row behind {heading} has no comment: {it}" for it in rows() if it.endswith("|  |"))
+    yield from wrong_metrics()
     yield from wrong_alarms()
