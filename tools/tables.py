@@ -1,6 +1,6 @@
 #!/usr/bin/env python3
-"""Makes tables of the pages: that of trials/README.md, a row for each subject of trials/run.py with the first paragraph of its
-docstring, and those of docs/REFERENCE.md and docs/socket.schema.json (tables_vamuretu.py).
+"""Makes tables and lists of the pages: the list of trials/README.md, each subject of trials/run.py with the first paragraph of
+its docstring, and those of docs/REFERENCE.md and docs/socket.schema.json (tables_vamuretu.py).
 
     tools/tables.py            writes the tables into the pages
     tools/tables.py --check    writes nothing; where a page has another table it says so, and the status is 1
@@ -34,25 +34,24 @@ def head_of(name):
     return re.sub(r"docs/[A-Z]+\.md", lambda it: f"[{it[0]}](../{it[0]})", head.replace("\n", " "))
 
 
-def subjects_table():
-    """A row for each subject."""
-    yield from ("| Subject | What is tried |", "|---|---|")
-    yield from (f"| `{name}.py` | {head_of(name)} |" for name in subjects())
+def subjects_list():
+    """An item for each subject."""
+    return [f"- `{name}.py`: {head_of(name)}" for name in subjects()]
 
 
 def with_table(text, heading, rows):
-    """A page whose first table behind a heading has these rows."""
+    """A page whose first table or list behind a heading has these lines."""
     before, found, behind = text.partition(f"\n{heading}\n")
-    table = re.search(r"(?:^\|.*\n)+", behind, re.MULTILINE)
+    table = re.search(r"(?:^(?:\||- ).*\n)+", behind, re.MULTILINE)
     if not found or not table or re.search(r"^#", behind[:table.start()], re.MULTILINE):
-        sys.exit(f"no table stands behind {heading}")
+        sys.exit(f"no table and no list stands behind {heading}")
     return before + found + behind[:table.start()] + "".join(f"{it}\n" for it in rows) + behind[table.end():]
 
 
 def made():
     """Each file that has what is made here, with the text that it has then."""
     page = os.path.join(TRIALS, "README.md")
-    yield page, with_table(read(page), HEADING, subjects_table())
+    yield page, with_table(read(page), HEADING, subjects_list())
     text = read(tables_vamuretu.REFERENCE)
     for heading, rows in tables_vamuretu.TABLES.items():
         text = with_table(text, heading, rows())

@@ -1,4 +1,4 @@
-"""The tables of docs/REFERENCE.md and the schema docs/socket.schema.json, made of the sources of the program vamuretu.
+"""The tables and lists of docs/REFERENCE.md and the schema docs/socket.schema.json, made of the sources of the program vamuretu.
 
 tools/tables.py writes them, and compares them. What a key, a member of a line or a metric is, its comment or its help says in
 the source. Of alarms, which the pages tell in their own words, only the names are compared.
@@ -268,30 +268,27 @@ def in_status(metric, kind):
     return path.partition(".")[0] if path and "." in path and kind != "histogram" else None
 
 
-def row_of_metric(metric, kind, label, said):
-    """The row of a metric. Of a counter the name tells that it is one."""
+def item_of_metric(metric, kind, label, said):
+    """The item of a metric. Of a counter the name tells that it is one."""
     said = f"Histogram: {said[0].lower()}{said[1:]}" if kind == "histogram" else said
-    return row(f"`{metric}{{{label}}}`" if label else f"`{metric}`", said)
+    return f"- `{metric}{{{label}}}`: {said}" if label else f"- `{metric}`: {said}"
 
 
 def metrics_of_node():
-    """A row for each metric of a node. Where the status has several numbers of one object, they have one row, that of the first."""
-    yield from (row("Metric", "What it is"), "|---|---|")
+    """An item for each metric of a node. Where the status has several numbers of one object, they have one, that of the first."""
     together = {}
     for it in metrics_of([*SOURCES_OF_METRICS["node"], *SHARED_METRICS]):
         together.setdefault(in_status(*it[:2]) or it[0], []).append(it)
     for which, told in together.items():
         if len(told) == 1:
-            yield row_of_metric(*told[0])
+            yield item_of_metric(*told[0])
         else:
-            said = f"What `{which}` of [the status](#the-status) has by these names."
-            yield row(", ".join(f"`{metric}`" for metric, *_ in told), said)
+            yield f"- {', '.join(f'`{metric}`' for metric, *_ in told)}: What `{which}` of [the status](#the-status) has by these names."
 
 
 def metrics_of_watcher():
-    """A row for each metric that a watcher has and a node has not."""
-    yield from (row("Metric", "What it is"), "|---|---|")
-    yield from (row_of_metric(*it) for it in metrics_of(SOURCES_OF_METRICS["watcher"]))
+    """An item for each metric that a watcher has and a node has not."""
+    yield from (item_of_metric(*it) for it in metrics_of(SOURCES_OF_METRICS["watcher"]))
 
 
 def wrong_metrics():
@@ -326,7 +323,7 @@ def wrong_alarms():
         yield from (f"docs/REFERENCE.md: the alarm {name} is there or in the code alone" for name in sorted(apart))
 
 
-# The tables of the page, each by the heading that it stands behind.
+# The tables and lists of the page, each by the heading that it stands behind.
 TABLES = {
     "## The configuration": configuration,
     "### Requests": requests,
@@ -340,6 +337,6 @@ TABLES = {
 def wrong():
     """What is wrong with the sources: a key, a member or a metric that has no comment, and alarms that a page does not name."""
     for heading, rows in TABLES.items():
-        yield from (f"vamuretu/src: a row behind {heading} has no comment: {it}" for it in rows() if it.endswith("|  |"))
+        yield from (f"vamuretu/src: a row behind {heading} has no comment: {it}" for it in rows() if it.endswith(("|  |", ": ")))
     yield from wrong_metrics()
     yield from wrong_alarms()
