@@ -3,6 +3,8 @@
 
     python3 bench/results.py
 
+A value that misses its goal is bold.
+
 A row with a goal has a ratio, and the goal is the most that the ratio may be; or it has none, and the goal is the most that
 the value may be. Of rows with one script, one `what` and one size the newest counts: the last day, and of one day the last row.
 Sizes of one script, one `what` and one day share a row of the table.
@@ -38,19 +40,19 @@ def told(values):
 
 def line_of(group):
     """A row of the table. Its sizes are told where there are several."""
-    script, what, date, unit = (group[0][it] for it in ("script", "what", "date", "unit"))
+    script, what, unit = (group[0][it] for it in ("script", "what", "unit"))
     sizes = ": " + told([row["workers_or_size"] for row in group]) if len(group) > 1 else ""
-    values = [row["ratio"] or row["value"] for row in group]
+    pairs = [(row["ratio"] or row["value"], row["goal"]) for row in group]
     behind = f" {unit}" if unit and not group[0]["ratio"] else ""
-    met = ["yes" if float(value) <= float(row["goal"]) else "no" for row, value in zip(group, values)]
+    values = [value if float(value) <= float(goal) else f"**{value}**" for value, goal in pairs]
     goals = told([row["goal"] for row in group])
-    return f"| `{script}` {what}{sizes} | {goals}{behind} | {', '.join(values)}{behind} | {date} | {told(met)} |"
+    return f"| `{script}` {what}{sizes} | {goals}{behind} | {', '.join(values)}{behind} |"
 
 
 def main():
     with open(FILE, encoding="utf-8", newline="") as kept:
         rows = list(csv.DictReader(kept))
-    print("| Goal | At most | Newest | Date | Met |\n|---|---|---|---|---|")
+    print("| Goal | At most | Newest |\n|---|---|---|")
     print("\n".join(line_of(group) for group in grouped(newest(rows))))
 
 
