@@ -127,8 +127,7 @@ pub struct Peer {
     pub number: u32,
     /// Where it listens.
     pub address: SocketAddr,
-    /// The pins of its key: two while it gets another.
-    /// Bounds: 1 or 2 with `[key]`, each once in the file, and else none.
+    /// The pins of its key.
     #[serde(default)]
     pub keys: Vec<Pin>,
 }
@@ -139,8 +138,7 @@ pub struct Peer {
 pub struct Watcher {
     /// Where it listens.
     pub address: SocketAddr,
-    /// The pins of its key: two while it gets another.
-    /// Bounds: 1 or 2 with `[key]`, each once in the file, and else none.
+    /// The pins of its key.
     #[serde(default)]
     pub keys: Vec<Pin>,
 }
@@ -170,8 +168,7 @@ pub struct Watched {
     pub number: u32,
     /// Where it connects from: this keeps places for its connections.
     pub address: Option<IpAddr>,
-    /// The pins of its key: two while it gets another.
-    /// Bounds: 1 or 2 with `[key]`, each once in the file, and else none.
+    /// The pins of its key.
     #[serde(default)]
     pub keys: Vec<Pin>,
 }
