@@ -261,9 +261,9 @@ def metrics_of(names):
 
 
 def in_status(metric, kind):
-    """Where the status has the number of a metric: the object, and the name in it. Else nothing."""
+    """The object of the status that has the number of a metric by the same name, or None."""
     types = types_of_socket()
-    names = {re.sub(r"_u?m?s$", "", path.replace(".", "_")): path for path, _ in members_of(types["Status"], types)}
+    names = {re.sub(r"_[um]?s$", "", path.replace(".", "_")): path for path, _ in members_of(types["Status"], types)}
     path = names.get(re.sub(r"^vamuretu_|_total$|_seconds$", "", metric))
     return path.partition(".")[0] if path and "." in path and kind != "histogram" else None
 
