@@ -43,21 +43,39 @@ def clock(lab):
         await_that(lambda: {it["node"] for it in made.alarms(WATCHER, "down")} == {BROKEN}, "the watcher says who is down")
 
 
-@case("a disk that is full: an alarm of the log and one of the mark name the cause, and no run is signed", needs=("strace",))
-def disk(lab):
-    def words(made):
-        full = ["-e", "trace=write,pwrite64", "--inject=write,pwrite64:error=ENOSPC"]
-        paths = [os.path.join(made.spool_of(BROKEN), "waiting"), os.path.dirname(made.state_of(BROKEN))]
-        os.makedirs(paths[0], exist_ok=True)
-        return ["strace", "-f", "--seccomp-bpf", "-qq", "-o", "/dev/null", *(it for path in paths for it in ("-P", path)), *full]
+def on_full_disk(folder):
+    """The words in front of a node to which the disk that has a folder says that it is full."""
+    return ["strace", "-f", "--seccomp-bpf", "-qq", "-o", "/dev/null", "-P", folder, "-e", "trace=fsync", "--inject=fsync:error=ENOSPC"]
 
+
+def says_full(made, alarm):
+    """Waits until alarms of one kind say that the disk is full, and the others go on."""
+    await_that(lambda: made.alarms(BROKEN, alarm), f"the node raises an alarm {alarm}")
+    others_decide(made, "a full disk")
+    said = {it["told"] for it in made.alarms(BROKEN, alarm)}
+    wants(all("No space left" in it for it in said), f"the alarms {alarm} of the node say {said}")
+
+
+@case("a disk that is full below the state: an alarm names the cause, and no run is signed", needs=("strace",))
+def disk_of_state(lab):
     with lab.system(starts=OTHERS) as made:
-        made.places.front[BROKEN] = words(made)
+        made.places.front[BROKEN] = on_full_disk(os.path.dirname(made.state_of(BROKEN)))
         made.nodes[BROKEN].start()
-        await_that(lambda: made.alarms(BROKEN), "the node raises an alarm")
-        others_decide(made, "a full disk")
-        said = {it["alarm"]: it["told"] for it in made.alarms(BROKEN) if it["alarm"] in ("state", "spool")}
-        wants(said and all("No space left" in it for it in said.values()), f"the alarms of the node are {made.alarms(BROKEN)[:3]}")
+        says_full(made, "state")
+        wants(not made.nodes[BROKEN].decided, "a run was signed")
+
+
+@case("a disk that is full below the spool: an alarm names the cause, and decisions go on", needs=("strace",))
+def disk_of_spool(lab):
+    with lab.system(starts=OTHERS) as made:
+        folder = os.path.join(made.spool_of(BROKEN), "waiting")
+        os.makedirs(folder)
+        made.places.front[BROKEN] = on_full_disk(folder)
+        made.nodes[BROKEN].start()
+        says_full(made, "spool")
+        wants(made.nodes[BROKEN].decided, "no run was decided")
+        unstored = tells(made, ["status", made.nodes[BROKEN].config])["status"]["spool"]["unstored"]
+        wants(unstored > 0, "the status has no log that waits for the disk")
 
 
 @case("a node that is out: the status of each neighbour says so, and the watcher says when its first log is missing, and that it is down")

@@ -199,7 +199,7 @@ def decided_in(made, node, system):
 
 @case("a system that is over: the process of each node goes on with the next one, no run is lost, and applications hear of both")
 def next_system(lab):
-    with lab.system(starts=(), watcher=False, levels=3, ahead=6000) as made:
+    with lab.system(starts=(), watcher=False, levels=3, ahead=8000, period=500) as made:
         second = second_system(lab, made)
         made.begin(range(4), watcher=False)
         waits_for = {node: made.status(node)["next"]["system"] for node in range(4)}
@@ -221,7 +221,8 @@ def next_system(lab):
         wants(decided_in(made, 0, told["system"])[told["run"]]["value"] == {"name": "close"}, f"the proposal {told} is not decided")
         wants({made.status(node)["system"] for node in range(4)} == {second.id}, "the status is not of the next system")
         wants(not made.alarms(0, "next"), f"alarms: {made.alarms(0, 'next')}")
-        wants(all(made.ends(node) for node in range(4)), "SIGTERM does not end the processes")
+        # Nobody takes the logs: each node waits for a watcher before it ends.
+        wants(all(made.ends(node, 20) for node in range(4)), f"SIGTERM does not end the processes: {made.said(0)[-3:]}")
         found = second.convicted() if lab.judges else None
         wants(not found, f"convicted in the next system: {found}")
 
