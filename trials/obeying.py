@@ -330,20 +330,26 @@ def liar_wrong(kind, made, script):
 
 
 def again_wrong(kind, made):
-    """None where a decision that comes again keeps no valve open."""
-    scene = Scene(made)
+    """None where a decision that comes again behind a later one of another value opens no valve."""
+    scene, is_over = Scene(made), threading.Event()
 
     def again(scene):
-        run = scene.now()
-        yield from (scene.decision(run) for _ in scene.runs())
+        runs = scene.runs()
+        first = next(runs)
+        yield scene.decision(first)
+        later = next(runs)
+        yield scene.decision(later, scene.decided[later][1][CLOSES][:2])
+        scene.is_over.wait(PERIOD / 3000)
+        is_over.set()
+        yield scene.decision(first) * 2
+        scene.is_over.wait()
 
-    doors = [Door(scene, again)]
+    doors = [Door(scene, lambda scene: silent(scene) if is_over.is_set() else again(scene))]
     with going(kind, scene, doors) as device:
-        if not device.is_within(PATIENCE, "open"):
-            return "it does not open"
-        doors[0].script = lambda scene: (scene.decision(FIRST) for _ in scene.runs())
-        if not device.is_within(3 * PERIOD / 1000 + SLACK, "closed"):
-            return "it stays open"
+        if not device.is_within(PATIENCE, "open") or not device.is_within(PATIENCE, "closed"):
+            return f"it does not open and close: {device.end()}"
+        if device.is_within(ALONE * PERIOD / 1000, "open"):
+            return "it opens by a decision that comes again"
     return None
 
 
