@@ -38,13 +38,13 @@ PYTHON, RUST = os.path.join(EMBED, "python"), os.path.join(EMBED, "rust")
 DEVICE = os.path.join(TOP, "examples", "device")
 # The system: its nodes and levels, and what its values (orders) mean. The runs that are decided, each both ways.
 NODES, LEVELS, OPENS, CLOSES = 3, 6, 2, 1
-RUNS = range(2, 256)
+RUNS = range(2, 200)
 # When a scene begins this run has just begun. A period in milliseconds, and how many periods a liar is alone.
 FIRST, PERIOD, ALONE = 12, 300, 10
 # What a device may take to begin, and a valve to open, and to close behind its three periods, on a busy machine, in seconds.
 BEGINNING, PATIENCE, SLACK = 60, 20, 5
 # A scene whose device has not begun before this run is played again, up to so many times. So many scenes go side by side.
-LATEST, TRIES, AT_ONCE = 120, 3, 8
+LATEST, TRIES, AT_ONCE = 90, 3, 8
 HEAP = "-DSM_POOL_BYTES=1048576"
 
 
@@ -475,6 +475,7 @@ def try_built(tally, folder):
         kinds["Rust"] = build_rust(folder, libraries)
     else:
         tally.note("left out: the device in Rust, as cargo, ar or libsm_embed.a is not there")
+    tally.hold("C, values", played(values_wrong, kinds.pop("C"), made))
     for name, kind in kinds.items():
         try_device(tally, name, kind, made)
     if shutil.which("openssl"):
