@@ -1,7 +1,7 @@
 """Four nodes that go on (vamuretu node), and a watcher (vamuretu watch), with a node killed, one halted, and one whose clock is set back: nobody signs twice, and all decide alike.
 
 The nodes talk over mutual TLS, each by its key. An application at each node
-proposes in the node's turns, and hears all decisions. All nodes that decide a run in time decide alike, and each node has a
+proposes in the node's turns, and hears all decisions. All nodes that decide a run in time decide alike, of each vote the median too, and each node has a
 decision from the run on that begins after it was started again. The log of each run that each node kept is judged by the
 program: it agrees with nobody listed but those that have no log or were late, and convicts nobody. So nobody signed a slot
 twice. The node whose clock goes back begins no run until its clock is right again. The watcher, which is killed too, gets each log that a node kept, and no
@@ -22,6 +22,7 @@ import shutil
 import signal
 import socket
 import sqlite3
+import statistics
 import subprocess
 import tempfile
 import threading
@@ -100,6 +101,7 @@ class Node(Process):
         self.decided, self.lost, self.starts, self.process, self.told = {}, [], 0, None, threading.Lock()
         # How often it was told that the disk has the log of a run, by its number.
         self.stored = collections.Counter()
+        self.votes = []
 
     def start(self):
         self.starts += 1
@@ -141,6 +143,7 @@ class Node(Process):
                     with self.told:
                         self.decided.setdefault(told["run"], []).append(self.kept(told))
                 self.stored.update([said["stored"]["run"]] if "stored" in said else [])
+                self.votes += [said["combined"]] if "combined" in said else []
                 self.lost += (it["run"] for it in said.get("lost", {}).get("proposals", []))
 
     def read(self, line):
@@ -473,6 +476,35 @@ def stored_wrong(made, first):
     return None
 
 
+def vote_wrong(node, vote):
+    """None where a vote is of the right runs, its decisions are those that its node told, and its value is their median."""
+    parts = "order", "holds", "receipt"
+    told = {it["run"]: [it[part] for part in parts] for it in vote["decided"]}
+    own = {run: [node.decided[run][0][part] for part in parts] for run in told if run in node.decided}
+    runs, is_whole = range(vote["first"], vote["last"] + 1), len(told) == NODES
+    if vote["first"] % NODES or len(runs) != NODES or not set(told) <= set(runs) or any(told[run] != own[run] for run in own):
+        return f"node {node.number} tells {vote['first']} to {vote['last']} with {told}, and told {own}"
+    order = statistics.median_low([it["order"] for it in vote["decided"]]) if is_whole else None
+    wanted = order, is_whole and all(it["holds"] for it in vote["decided"])
+    found = vote["order"], vote["holds"]
+    return None if found == wanted else f"node {node.number} tells {found} of {told}, and not {wanted}"
+
+
+def votes_wrong(made):
+    """None where each vote is right, nodes whose votes hold tell them alike, and some hold at most nodes."""
+    by_first = collections.defaultdict(list)
+    for node in made.nodes:
+        for vote in node.votes:
+            wrong = vote_wrong(node, vote)
+            if wrong:
+                return wrong
+            by_first[vote["first"]] += [vote["order"]] if vote["holds"] else []
+    # As of decisions: where more nodes than one do not rely on theirs, nothing is promised.
+    held = {first: orders for first, orders in by_first.items() if len(orders) >= NODES - TRAITORS}
+    apart = {first: orders for first, orders in held.items() if len(set(orders)) > 1}
+    return f"votes apart: {apart}" if apart else None if held else f"of {len(by_first)} votes none holds at most nodes"
+
+
 def log_of(made, node, number):
     """The log of a run that a node kept, or None."""
     end = run(made.program, ["log", made.nodes[node].config, str(number)])
@@ -643,10 +675,14 @@ class Schools(Made):
         self.seen, self.untaken = set(), []
         super().__init__(*words)
 
+    def config_of(self, node, **other):
+        """A configuration by which votes are told."""
+        return super().config_of(node, **other).replace("[metrics]", 'combine = "median"\n[metrics]', 1)
+
 
 def lines_wrong(made):
     """None where the schema takes each line at the sockets, and there was each kind that this trial brings about."""
-    lacking = {"ask", "decided", "listening", "proposed", "status"} - made.seen
+    lacking = {"ask", "combined", "decided", "listening", "proposed", "status"} - made.seen
     return made.untaken[0] if made.untaken else f"no line began with {sorted(lacking)}" if lacking else None
 
 
@@ -656,6 +692,7 @@ def try_system(tally, made):
     tally.hold("the nodes end", ended_wrong(made))
     tally.hold("decisions", decisions_wrong(made, first))
     tally.hold("lines of logs that are stored", stored_wrong(made, first))
+    tally.hold("votes", votes_wrong(made))
     tally.hold("the node that was killed, and the one whose clock was set", keys_wrong(made, first))
     tally.hold("logs", logs_wrong(made, tally, first))
     tally.hold("receipts", receipts_wrong(made, max(made.nodes[0].decided)))

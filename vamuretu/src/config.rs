@@ -179,6 +179,22 @@ pub struct Watched {
 pub struct Local {
     /// The Unix socket of proposals and decisions.
     pub socket: PathBuf,
+    /// The rule that makes one value of n runs, in each of which another node proposes.
+    /// Default: no vote is told.
+    /// Bounds: the nodes propose by turns; n is above 2m, but for `"all"`.
+    pub combine: Option<Rule>,
+}
+
+/// A rule that makes one value of several decided ones.
+#[derive(Debug, Clone, Copy, PartialEq, Eq, Deserialize)]
+#[serde(rename_all = "lowercase")]
+pub enum Rule {
+    /// The least value such that at least half of the values are at most it.
+    Median,
+    /// The value that more than half of the values are, or value 0 if there is none.
+    Majority,
+    /// The value that all of the values are, or value 0 if they differ.
+    All,
 }
 
 /// Where the metrics are read.
@@ -650,6 +666,7 @@ mod tests {
             ("source = \"kernel\"", "source = \"nobody\""),
             ("start = 2027-01-01T00:00:00Z", "start = 2027-01-01"),
             ("period_ms = 1000", "period_ms = 1000\nperiods = 3"),
+            ("# combine = \"median\"", "combine = \"mean\""),
         ];
         for (old, new) in wrong {
             assert!(four().contains(old), "{old}");

@@ -138,6 +138,11 @@ impl Systems {
         }
     }
 
+    /// Whether the nodes propose by turns.
+    pub fn has_turns(&self) -> bool {
+        self.turns
+    }
+
     /// How many nodes there are.
     pub fn nodes(&self) -> u32 {
         self.roots.len() as u32

@@ -27,7 +27,7 @@ pub enum Line {
         /// The value that was proposed for this run before, and is not any more.
         replaced: Option<Value>,
     },
-    /// The answer to `decisions`, always true: lines `decided`, `stored`, `lost`, `missed_decisions` and `missed_runs` follow.
+    /// The answer to `decisions`, always true: lines `decided`, `stored`, `combined`, `lost`, `missed_decisions` and `missed_runs` follow.
     Listening {
         /// True.
         listening: bool,
@@ -61,6 +61,11 @@ pub enum Line {
     Stored {
         /// The run.
         stored: Stored,
+    },
+    /// A vote that is over: one value of n runs, in each of which another node proposes.
+    Combined {
+        /// The vote.
+        combined: Box<Combined>,
     },
     /// Proposals that are lost: the node did not begin their runs, or ended them without a decision.
     Lost {
@@ -136,6 +141,46 @@ pub struct Stored {
     pub run: u32,
     /// The id of the run, 64 hexadecimal digits.
     pub run_id: String,
+}
+
+/// A vote that is over.
+#[derive(Debug, Clone, Serialize)]
+pub struct Combined {
+    /// The id of the system, 64 hexadecimal digits.
+    pub system: String,
+    /// Its first run.
+    pub first: u32,
+    /// Its last run.
+    pub last: u32,
+    /// The rule: `combine` of the configuration.
+    pub rule: String,
+    /// The number of the value (order) that the rule makes of the decisions, if each run has one of this node.
+    pub order: Option<u8>,
+    /// The value, if `[orders]` names it.
+    pub value: Option<Value>,
+    /// Whether each run has a decision of this node that can be relied on.
+    pub holds: bool,
+    /// The same in a sentence for people, and why it does not hold.
+    pub worth: String,
+    /// The decisions of this node, by their runs.
+    pub decided: Vec<InVote>,
+}
+
+/// A decision of a vote.
+#[derive(Debug, Clone, PartialEq, Eq, Serialize)]
+pub struct InVote {
+    /// The number of the run.
+    pub run: u32,
+    /// The node that proposes in it.
+    pub proposer: u32,
+    /// The number of the value (order).
+    pub order: u8,
+    /// The value, if `[orders]` names it.
+    pub value: Option<Value>,
+    /// Whether the decision can be relied on, by what this node knows.
+    pub holds: bool,
+    /// The receipt of this node, in base64.
+    pub receipt: String,
 }
 
 /// Proposals that are lost.
@@ -334,6 +379,22 @@ mod tests {
         }
     }
 
+    fn combined(order: Option<u8>, value: Option<Value>) -> Combined {
+        let decision =
+            InVote { run: 4, proposer: 0, order: 1, value: value.clone(), holds: true, receipt: "AA==".into() };
+        Combined {
+            system: id(),
+            first: 4,
+            last: 7,
+            rule: "median".into(),
+            order,
+            value,
+            holds: order.is_some(),
+            worth: "much".into(),
+            decided: vec![decision],
+        }
+    }
+
     fn status(waits_for: Option<&str>) -> Status {
         let stuck = Stuck { run: 3, watcher: "127.0.0.1:1".parse().expect("an address"), why: "third".into() };
         Status {
@@ -377,6 +438,8 @@ mod tests {
             Line::Decided { decided: decided(Some(close())).into() },
             Line::Decided { decided: Decided { proposer: None, ..decided(None) }.into() },
             Line::Stored { stored: Stored { system: id(), run: 7, run_id: id() } },
+            Line::Combined { combined: combined(Some(1), Some(close())).into() },
+            Line::Combined { combined: combined(None, None).into() },
             Line::Lost { lost: Lost { system: id(), proposals: proposals(), why: "passed".into() } },
             Line::Missed { missed_decisions: u64::MAX },
             Line::MissedRuns { missed_runs: Gone { system: id(), first: 3, last: 7 } },

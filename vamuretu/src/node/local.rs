@@ -81,7 +81,7 @@ pub enum Request {
 }
 
 /// The value of an order, if the table has it.
-fn value_of(file: &NodeFile, order: u32) -> Option<Value> {
+pub fn value_of(file: &NodeFile, order: u32) -> Option<Value> {
     file.name_of(order).map(|name| Value { name: name.into() })
 }
 

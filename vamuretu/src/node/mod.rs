@@ -15,6 +15,7 @@ mod runs;
 mod shelf;
 pub mod ship;
 pub mod spool;
+mod vote;
 mod waits;
 mod worth;
 
@@ -41,6 +42,7 @@ use self::nodes::Nodes;
 use self::peers::Links;
 use self::runs::{Outcome, Play};
 use self::spool::Spool;
+use self::vote::Votes;
 use self::waits::{Passing, Waits};
 use crate::clock::{self, Guard, Look};
 use crate::config::NodeFile;
@@ -133,6 +135,7 @@ pub struct Shared {
     pub spool: Spool,
     pub longest_frame: usize,
     proposals: Mutex<Proposals>,
+    votes: Option<Votes>,
     pub telling: Telling,
     /// The receipts that show decisions, if there is a door for devices.
     pub gather: Option<Gather>,
@@ -154,6 +157,7 @@ impl Shared {
         let links =
             Links::new(file.neighbours(), LEAST_QUEUE.max(under_way * rounds * longest_frame), counts.dropped.clone());
         Ok(Shared {
+            votes: Votes::open(file, &systems, first.traitors)?,
             spool: Spool::open(file, counts.clone())?,
             file: file.clone(),
             systems,
@@ -290,6 +294,18 @@ impl Shared {
         self.proposals().take(run)
     }
 
+    /// Tells the votes that are over, where all runs below this one have begun or passed.
+    fn pass_votes(&self, next: u32) {
+        let lines = self.votes.iter().flat_map(|votes| votes.pass(&self.file, next));
+        lines.for_each(|line| self.telling.tell(line));
+    }
+
+    /// Tells the votes that are over, where a run has ended, with an outcome or without one.
+    fn end_in_votes(&self, run: &Run, outcome: Option<&Outcome>) {
+        let lines = self.votes.iter().flat_map(|votes| votes.end(&self.file, run, outcome));
+        lines.for_each(|line| self.telling.tell(line));
+    }
+
     /// Why no run begins now.
     pub fn waits_for(&self) -> Option<Waits> {
         *self.waits_for.lock().unwrap_or_else(|told| told.into_inner())
@@ -346,6 +362,7 @@ impl Scheduler {
             shared.counts.missed.inc_by(missed.into());
             shared.lose_below(self.passing.next(), PASSED);
             shared.gather.iter().for_each(|gather| gather.pass(self.passing.next()));
+            shared.pass_votes(self.passing.next());
         }
         let all = shared.counts.missed.get();
         if let Some(runs) = self.passing.alarm(all, Instant::now()) {
@@ -371,6 +388,7 @@ impl Scheduler {
             thread::sleep(wait.min(LOOK));
         }
         self.shared.lose_below(u32::MAX, "the node ends");
+        self.shared.pass_votes(u32::MAX);
         Ok(())
     }
 
@@ -440,9 +458,13 @@ impl Scheduler {
             tracing::error!(alarm = "life", run = number, left, "few runs are left: the next system has to be ready");
         }
         shared.telling.note(number, true);
+        if let Some(votes) = &shared.votes {
+            votes.begin(number);
+        }
         let play = move || {
             if !play(&shared, &run, node, &inbox, begins) {
                 shared.telling.note(number, false);
+                shared.end_in_votes(&run, None);
                 let lost = proposed.into_iter().map(|order| (number, order)).collect();
                 shared.tell_lost(&lost, "the run ended without a decision of this node");
             }
@@ -470,6 +492,7 @@ fn play(shared: &Arc<Shared>, run: &Run, node: Node, inbox: &Inbox, begins: Inst
     match ended {
         Ok(outcome) => {
             tell(shared, run, &outcome, begins);
+            shared.end_in_votes(run, Some(&outcome));
             keep(shared, run, &mut play, &outcome, begins);
             play.linger();
         }
