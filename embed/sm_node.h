@@ -217,8 +217,8 @@ uint32_t sm_node_receipt(sm_node *node, uint8_t *room, size_t room_bytes, size_t
    SM_OK or SM_MISUSE. */
 uint32_t sm_node_order(sm_node *node, uint32_t *order) SM_CALL(1, 2);
 
-/* Writes the order that a rule of enum sm_combination makes of orders that several runs decided, a byte each, in any
-   order. So n nodes vote by n runs, in each of which another one proposes. With at most m faulty nodes and more than 2m
+/* Makes one order of several that runs decided, by a rule of enum sm_combination. Each is a byte, and their places mean
+   nothing. So n nodes vote by n runs, in each of which another one proposes. With at most m faulty nodes and more than 2m
    orders, the median is from the least to the greatest order that correct nodes proposed, and the majority is the one
    that all of them proposed, if there is one. By SM_ALL no order but 0 comes that is not each correct node's. No call
    tells whether the orders are of such runs. SM_MISUSE if there is no such rule, an order is above 15, or there are no
