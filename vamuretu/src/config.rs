@@ -179,9 +179,8 @@ pub struct Watched {
 pub struct Local {
     /// The Unix socket of proposals and decisions.
     pub socket: PathBuf,
-    /// The rule that makes one value of n runs, in each of which another node proposes.
+    /// The rule that makes one value of n runs of n nodes, which propose by turns; but for `"all"`, n is above 2m.
     /// Default: no vote is told.
-    /// Bounds: the nodes propose by turns; n is above 2m, but for `"all"`.
     pub combine: Option<Rule>,
 }
 

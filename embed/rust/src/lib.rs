@@ -6,9 +6,9 @@
 //! The jobs are what `sm_tool` does over bytes: [`audit`], [`draw`], [`accuse`], [`evidence`], [`receipt`], [`receipts`],
 //! [`decide`], [`show`], [`explain`], [`words`] and [`plan`]. Some have a twin that takes the run ids that are expected,
 //! as [`audit_of`]. Threads may make them at the same time. [`judge`] and [`decisions`] give the answers of two of them
-//! in their parts. [`shown`] tells an actuator the value that receipts show, a [`Device`] obeys the decisions of a system,
-//! and [`combine`] makes one value of several. A [`Node`] is driven over the caller's transport, by any thread, one call at a time. A [`Bundle`] of logs is
-//! what `audit` judges.
+//! in their parts. [`shown`] tells an actuator the value that receipts show, a [`Device`] obeys the decisions of a
+//! system, and [`combine`] makes one value of several. A [`Node`] is driven over the caller's transport, by any thread, one
+//! call at a time. A [`Bundle`] of logs is what `audit` judges.
 //!
 //! A [`KeptState`] hands out the seeds of one [`Secret`] for many runs. [`enroll`], [`identity`], [`system`], [`admission`]
 //! and [`admit`] make what its nodes share, and [`Expected`] has an admission in the place of run ids.

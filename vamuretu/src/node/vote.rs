@@ -158,8 +158,8 @@ impl Votes {
             return Err(End::failed("[local] combine: the nodes of the system do not propose by turns"));
         }
         if rule != Rule::All && nodes <= 2 * traitors {
-            let told = format!("[local] combine: of {nodes} nodes {traitors} may be faulty, and only \"all\" means something");
-            return Err(End::failed(told));
+            let why = format!("of {nodes} nodes {traitors} may be faulty, and \"all\" alone promises something");
+            return Err(End::failed(format!("[local] combine: {why}")));
         }
         let tally = Tally { nodes, open: BTreeMap::new(), next: 0 };
         Ok(Some(Votes { rule, traitors, tally: Mutex::new(tally) }))
@@ -212,6 +212,17 @@ mod tests {
     fn told(tally: &mut Tally) -> Vec<(u32, Vec<u32>, Option<String>)> {
         let over = tally.over();
         over.iter().map(|it| (it.first, it.decided.keys().copied().collect(), it.doubt())).collect()
+    }
+
+    #[test]
+    fn a_vote_has_the_value_that_the_rule_makes() {
+        let decided = |(run, &order): (u32, &u8)| decided(run, true).map(|it| (run, InVote { order, ..it }));
+        let over = |orders: &[u8]| Over { first: 3, last: 5, decided: (3..).zip(orders).filter_map(decided).collect() };
+        let made = |orders: &[u8]| [Rule::Median, Rule::Majority, Rule::All].map(|rule| over(orders).order(rule));
+        assert_eq!(made(&[2, 1, 2]), [Some(2), Some(2), Some(0)]);
+        assert_eq!(made(&[0, 2, 1]), [Some(1), Some(0), Some(0)]);
+        assert_eq!(made(&[1, 1, 1]), [Some(1); 3]);
+        assert_eq!(made(&[1, 1]), [None; 3], "a run has no decision");
     }
 
     #[test]
