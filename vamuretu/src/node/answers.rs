@@ -62,7 +62,7 @@ pub enum Line {
         /// The run.
         stored: Stored,
     },
-    /// A vote that is over: one value of n runs, in each of which another node proposes.
+    /// [A vote](NODES.md#several-decisions-become-one) that is over.
     Combined {
         /// The vote.
         combined: Box<Combined>,
@@ -154,7 +154,7 @@ pub struct Combined {
     pub last: u32,
     /// The rule: `combine` of the configuration.
     pub rule: String,
-    /// The number of the value (order) that the rule makes of the decisions, if each run has one of this node.
+    /// The number of the value (order), if each run has a decision of this node.
     pub order: Option<u8>,
     /// The value, if `[orders]` names it.
     pub value: Option<Value>,
