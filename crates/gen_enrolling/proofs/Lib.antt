@@ -1,3 +1,4 @@
+pub mod Enrolled
 pub mod Gathered
 pub mod Missing
 pub mod Told

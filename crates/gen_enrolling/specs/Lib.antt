@@ -2,6 +2,7 @@ pub mod Admitted
 pub mod Admitting
 pub mod Asking
 pub mod Enrolling
+pub mod FromFiles
 pub mod Gathering
 pub mod Loops
 pub mod Resuming
