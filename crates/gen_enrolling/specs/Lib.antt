@@ -1,5 +1,6 @@
 pub mod Admitted
 pub mod Admitting
+pub mod Among
 pub mod Asking
 pub mod Enrolling
 pub mod FromFiles
@@ -8,3 +9,4 @@ pub mod Loops
 pub mod Resuming
 pub mod Systems
 pub mod Telling
+pub mod ToldReading

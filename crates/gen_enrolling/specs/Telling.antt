@@ -3,17 +3,17 @@ use Rattle.std.specs.Prelude.{ℕ, List, [], ◌∷◌, ◌++◌, codes}
 use Rattle.std.specs.Fmt.{decimal}
 use Rattle.std.specs.List.{flat_map}
 use Rattle.hex.specs.Hex.{encode_lower}
+use Rattle.serde_json.specs.Data.{Data}
+use Rattle.serde_json.specs.Written.{compact_text}
+use Rattle.gen_json.specs.JsonData.{digits_data, fields, list_of, numbers_data, whole}
 use Rattle.gen_asked.specs.declared.forms.Form.{Form}
 use Rattle.gen_asked.specs.declared.forms.Form.TheVariants.{Text, Json}
 use Rattle.gen_enrolling.specs.declared.admitted.AdmittedRun.{AdmittedRun}
 use Rattle.gen_enrolling.specs.declared.admitted.AdmittedRuns.{AdmittedRuns}
 
--- a node behind a space, and behind a comma
+-- a node behind a space
 abbrev pub node_behind_space : ℕ → List ℕ
 node_behind_space node = codes " " ++ decimal node
-
-abbrev pub node_behind_comma : ℕ → List ℕ
-node_behind_comma node = codes "," ++ decimal node
 
 -- the line of a run: its number, and the node that each general is
 unfoldable pub run_line : AdmittedRun → List ℕ
@@ -25,33 +25,28 @@ run_line r =
 unfoldable pub admitted_text : AdmittedRuns → List ℕ
 admitted_text a = codes "system " ++ encode_lower a.system ++ codes "\n" ++ flat_map run_line a.runs.items
 
--- nodes with commas between them
-unfoldable pub nodes_json : List ℕ → List ℕ
-nodes_json [] = []
-nodes_json (node ∷ nodes) = decimal node ++ flat_map node_behind_comma nodes
+-- a run as JSON: the node that each general is, its number and its run id
+abbrev pub run_data : AdmittedRun → Data
+run_data r = fields (
+    (codes "nodes", numbers_data r.nodes.items)
+    ∷ (codes "number", whole r.number)
+    ∷ (codes "run", digits_data r.id)
+    ∷ [])
 
--- a run as a JSON object
-unfoldable pub run_json : AdmittedRun → List ℕ
-run_json r =
-    codes "{\"nodes\":[" ++ nodes_json r.nodes.items ++ codes "],\"number\":" ++ decimal r.number
-    ++ codes ",\"run\":\"" ++ encode_lower r.id ++ codes "\"}"
+-- runs that are admitted as JSON: the runs, and the id of their system
+abbrev pub admitted_data : AdmittedRuns → Data
+admitted_data a = fields (
+    (codes "runs", list_of run_data a.runs.items)
+    ∷ (codes "system", digits_data a.system)
+    ∷ [])
 
--- a run as a JSON object behind a comma
-abbrev pub behind_comma : AdmittedRun → List ℕ
-behind_comma r = codes "," ++ run_json r
+-- the name of the member of a JSON object that tells runs that are admitted
+abbrev pub admitted_name : List ℕ
+admitted_name = codes "admitted"
 
--- runs as JSON objects, with commas between them
-unfoldable pub runs_json : List AdmittedRun → List ℕ
-runs_json [] = []
-runs_json (run ∷ runs) = run_json run ++ flat_map behind_comma runs
-
--- the end of the member: the id of the system
-unfoldable pub system_json : List ℕ → List ℕ
-system_json id = codes "],\"system\":\"" ++ encode_lower id ++ codes "\"}"
-
--- the member of a JSON object that tells runs that are admitted, with its name
-unfoldable pub admitted_json : AdmittedRuns → List ℕ
-admitted_json a = codes "\"admitted\":{\"runs\":[" ++ runs_json a.runs.items ++ system_json a.system
+-- the member of a JSON object that tells runs that are admitted: its name, and its value behind a colon
+abbrev pub admitted_json : AdmittedRuns → List ℕ
+admitted_json a = codes "\"admitted\":" ++ compact_text (admitted_data a)
 
 -- a JSON object with this member in front of its others
 abbrev pub object_with : AdmittedRuns → List ℕ → List ℕ

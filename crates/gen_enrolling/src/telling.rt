@@ -1,11 +1,17 @@
 //! What is told of the runs that an admission admits, beside an answer.
 ghost use Rattle.std.specs.Prelude.{◌≡◌, ◌++◌, IfOk, OnOk, string_bytes};
 ghost use Rattle.std.specs.List.{flat_map};
-ghost use Rattle.gen_enrolling.specs.Telling.{admitted_json, admitted_text, answer_with, behind_comma, node_behind_space, nodes_json, object_with, run_json, run_line, runs_json, system_json};
+ghost use Rattle.serde_json.specs.View.{view};
+ghost use Rattle.gen_asked.specs.declared.forms.Form.TheVariants.{Json};
+ghost use Rattle.gen_json.specs.JsonData.{list_of};
+ghost use Rattle.gen_enrolling.specs.ToldReading.{ReadsBack, ReadsBeside};
+ghost use Rattle.gen_enrolling.specs.Telling.{admitted_data, admitted_json, admitted_text, answer_with, node_behind_space, object_with, run_data, run_line};
 
 use crate::admitted::{AdmittedRun, AdmittedRuns};
 use gen_asked::Form;
+use gen_json::{ObjectBuilder, digits_value, path_value};
 use gen_types::GeneralNo;
+use serde_json::Value;
 use std::alloc::{AllocError, Global};
 
 /// Appends the line of a run: its number, and the node that each general is.
@@ -59,81 +65,36 @@ pub fn admitted_text(alloc: Global, admitted: &AdmittedRuns) -> Result<Vec<u8>, 
     Ok(out.into_bytes())
 }
 
-/// Appends nodes as JSON, with commas between them.
-#[tactic(auto, unfolding(crate::specs::Telling::nodes_json))]
-fn push_nodes_json(out: &mut String, nodes: &[GeneralNo]) -> Result<(), AllocError>
-    ensures { OnOk result (string_bytes out.new ≡ string_bytes out.old ++ nodes_json nodes.now) }
+/// Returns a run as JSON.
+fn run_value(alloc: Global, run: &AdmittedRun) -> Result<Value, AllocError>
+    ensures { IfOk result (λ v. view v ≡ run_data run.now) }
 {
-    let Some((first, others)) = nodes.split_first() else {
-        return Ok(());
-    };
-    let number = first.get();
-    write!(out, "{number}")?;
-    for node in others {
-        let number = node.get();
-        write!(out, ",{number}")?;
+    let mut object = ObjectBuilder::new(alloc);
+    object.put_made("nodes", path_value(alloc, &run.nodes));
+    object.put("number", Value::from(run.number));
+    object.put_made("run", digits_value(alloc, &run.id));
+    object.finish()
+}
+
+/// Returns the list of runs as JSON.
+fn runs_value(alloc: Global, runs: &[AdmittedRun]) -> Result<Value, AllocError>
+    ensures { IfOk result (λ v. view v ≡ list_of run_data runs.now) }
+{
+    let mut list = Vec::new(alloc);
+    for run in runs {
+        serde_json::push(&mut list, run_value(alloc, run)?)?;
     }
-    Ok(())
+    Ok(Value::Array(list))
 }
 
-/// Appends a run as a JSON object.
-#[tactic(auto, unfolding(crate::specs::Telling::run_json))]
-fn push_run_json(alloc: Global, out: &mut String, run: &AdmittedRun) -> Result<(), AllocError>
-    ensures { OnOk result (string_bytes out.new ≡ string_bytes out.old ++ run_json run.now) }
+/// Returns runs that are admitted as JSON, with the id of their system.
+fn admitted_value(alloc: Global, admitted: &AdmittedRuns) -> Result<Value, AllocError>
+    ensures { IfOk result (λ v. view v ≡ admitted_data admitted.now) }
 {
-    let number = run.number;
-    let digits = hex::encode(alloc, run.id)?;
-    out.push_str("{\"nodes\":[")?;
-    push_nodes_json(out, &run.nodes)?;
-    write!(out, "],\"number\":{number},\"run\":\"{digits}\"")?;
-    out.push_str("}")
-}
-
-/// Appends runs as JSON objects, with commas between them.
-#[tactic(auto, unfolding(crate::specs::Telling::runs_json))]
-fn push_runs_json(alloc: Global, out: &mut String, runs: &[AdmittedRun]) -> Result<(), AllocError>
-    ensures { OnOk result (string_bytes out.new ≡ string_bytes out.old ++ runs_json runs.now) }
-{
-    let Some((first, others)) = runs.split_first() else {
-        return Ok(());
-    };
-    push_run_json(alloc, out, first)?;
-    for run in others {
-        out.push_str(",")?;
-        push_run_json(alloc, out, run)?;
-    }
-    Ok(())
-}
-
-/// Appends the end of the member: the id of the system.
-#[tactic(auto, unfolding(crate::specs::Telling::system_json))]
-fn push_system_json(
-    alloc: Global,
-    out: &mut String,
-    admitted: &AdmittedRuns,
-) -> Result<(), AllocError>
-    ensures { OnOk result
-        (string_bytes out.new ≡ string_bytes out.old ++ system_json admitted.now.system) }
-{
-    let digits = hex::encode(alloc, admitted.system)?;
-    write!(out, "],\"system\":\"{digits}\"}}")?;
-    Ok(())
-}
-
-/// Appends the member of a JSON object that tells runs that are admitted.
-#[tactic(auto, unfolding(crate::specs::Telling::admitted_json))]
-fn push_admitted_json(
-    alloc: Global,
-    out: &mut String,
-    admitted: &AdmittedRuns,
-) -> Result<(), AllocError>
-    ensures { OnOk result
-        (string_bytes out.new ≡ string_bytes out.old ++ admitted_json admitted.now) }
-{
-    out.push_str("\"admitted\":{\"runs\":[")?;
-    push_runs_json(alloc, out, &admitted.runs)?;
-    push_system_json(alloc, out, admitted)?;
-    Ok(())
+    let mut object = ObjectBuilder::new(alloc);
+    object.put_made("runs", runs_value(alloc, &admitted.runs));
+    object.put_made("system", digits_value(alloc, &admitted.system));
+    object.finish()
 }
 
 /// Returns the member of a JSON object that tells runs that are admitted: `admitted`, an object of the runs and the id of
@@ -143,22 +104,27 @@ fn push_admitted_json(
 ///
 /// `AllocError` if memory is refused.
 pub fn admitted_json(alloc: Global, admitted: &AdmittedRuns) -> Result<Vec<u8>, AllocError>
-    ensures { IfOk result (λ text. text.items ≡ admitted_json admitted.now) }
+    ensures text { IfOk result (λ text. text.items ≡ admitted_json admitted.now) }
+    // The text of the runs reads as their value.
+    ensures reads { IfOk result (λ _. ReadsBack (admitted_data admitted.now)) }
 {
-    let mut out = String::new(alloc);
-    push_admitted_json(alloc, &mut out, admitted)?;
-    Ok(out.into_bytes())
+    let value = admitted_value(alloc, admitted)?;
+    let text = value.to_string(alloc)?;
+    let mut member = String::from_str(alloc, "\"admitted\":")?;
+    member.push_str(&text)?;
+    Ok(member.into_bytes())
 }
 
 /// Returns a JSON object with the member that tells runs that are admitted in front of its others.
 fn object_with(alloc: Global, admitted: &AdmittedRuns, object: &[u8]) -> Result<Vec<u8>, AllocError>
-    ensures { IfOk result (λ text. text.items ≡ object_with admitted.now object.now) }
+    ensures text { IfOk result (λ text. text.items ≡ object_with admitted.now object.now) }
+    ensures reads { IfOk result (λ text. ReadsBeside admitted.now object.now text.items) }
 {
+    let member = admitted_json(alloc, admitted)?;
     let mut text = Vec::new(alloc);
     let Some((brace, others)) = object.split_first() else {
         return Ok(text);
     };
-    let member = admitted_json(alloc, admitted)?;
     text.push(*brace)?;
     text.extend_from_slice(&member)?;
     text.push(b',')?;
@@ -178,7 +144,9 @@ pub fn answer_with(
     admitted: &AdmittedRuns,
     answer: &[u8],
 ) -> Result<Vec<u8>, AllocError>
-    ensures { IfOk result (λ text. text.items ≡ answer_with form admitted.now answer.now) }
+    ensures text { IfOk result (λ text. text.items ≡ answer_with form admitted.now answer.now) }
+    // In JSON a reader finds the object of the answer, and the runs among its members.
+    ensures reads { form ≡ Json → IfOk result (λ text. ReadsBeside admitted.now answer.now text.items) }
 {
     match form {
         Form::Text => {

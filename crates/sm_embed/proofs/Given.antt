@@ -10,7 +10,7 @@ use Rattle.gen_facts.specs.declared.fact.Fact.{Fact}
 use Rattle.gen_jobs.specs.declared.in_place.Answered.{Answered}
 use Rattle.gen_jobs.specs.Facts.{JobFacts}
 use Rattle.gen_jobs.specs.Jobs.{JobAnswers, JobFails}
-use Rattle.sm_embed.specs.Knowing.{Knows, MakesKnown}
+use Rattle.sm_embed.specs.Knowing.{IsMadeAbout, Knows, MakesKnown}
 use Rattle.sm_embed.specs.Loops.Keeping.{Keeps}
 use Rattle.sm_embed.specs.Making.{IsMade, MakesJob, line_number}
 use Rattle.sm_embed.specs.declared.kept.Kept.{Kept}
@@ -67,15 +67,24 @@ answered_at A B F held status few (inr (inr (inl x))) = let more : 3 ≤ status 
 answered_at A B F held status few (inr (inr (inr x))) = let is : status ≡ 4 = x.0 in absurd (omega arith)
 
 -- nothing is answered, so it does not matter whose the general is
-pub made_of_fault : (job : Job) (general : ℕ) (input : List ℕ) (held : Option Kept) (status : ℕ) → 1 < status → MakesJob job input held status → MakesKnown job general input held status
-made_of_fault job general input held status more (inl x) = let is : status ≡ 0 = x.0 in absurd (omega arith)
-made_of_fault job general input held status more (inr (inl x)) = let is : status ≡ 1 = x.0 in absurd (omega arith)
-made_of_fault job general input held status more (inr (inr x)) = inr (inr (inr x))
+pub about_fault : (A : List ℕ → Bool → Type 0) (B : List Fact → Type 0) (F : JobFault → Type 0) (K : Bool → Type 0) (held : Option Kept) (status : ℕ) → 1 < status → IsMade A B F held status → IsMadeAbout K A B F held status
+about_fault A B F K held status more (inl x) = let is : status ≡ 0 = x.0 in absurd (omega arith)
+about_fault A B F K held status more (inr (inl x)) = let is : status ≡ 1 = x.0 in absurd (omega arith)
+about_fault A B F K held status more (inr (inr x)) = inr (inr (inr x))
 
 -- the general is one of a run's
-pub made_of_known : (job : Job) (general : ℕ) (input : List ℕ) (held : Option Kept) (status : ℕ) → MakesJob job input held status → Knows job general input true → MakesKnown job general input held status
-made_of_known job general input held status made known = inr (made_too (JobAnswers job None input) (JobFacts job input) (JobFails job input) (Knows job general input true) held status known made)
+pub about_known : (A : List ℕ → Bool → Type 0) (B : List Fact → Type 0) (F : JobFault → Type 0) (K : Bool → Type 0) (held : Option Kept) (status : ℕ) → IsMade A B F held status → K true → IsMadeAbout K A B F held status
+about_known A B F K held status made known = inr (made_too A B F (K true) held status known made)
 
 -- the general is no run's, so what was made is dropped
+pub about_nobody : (A : List ℕ → Bool → Type 0) (B : List Fact → Type 0) (F : JobFault → Type 0) (K : Bool → Type 0) (made left : Option Kept) (status : ℕ) → status ≤ 1 → IsMade A B F made status → K false → left ≡ None → IsMadeAbout K A B F left 6
+about_nobody A B F K made left status few is nobody empty = inl (refl, empty, (answered_at A B F made status few is, nobody))
+
+pub made_of_fault : (job : Job) (general : ℕ) (input : List ℕ) (held : Option Kept) (status : ℕ) → 1 < status → MakesJob job input held status → MakesKnown job general input held status
+made_of_fault job general input held status more made = about_fault (JobAnswers job None input) (JobFacts job input) (JobFails job input) (Knows job general input) held status more made
+
+pub made_of_known : (job : Job) (general : ℕ) (input : List ℕ) (held : Option Kept) (status : ℕ) → MakesJob job input held status → Knows job general input true → MakesKnown job general input held status
+made_of_known job general input held status made known = about_known (JobAnswers job None input) (JobFacts job input) (JobFails job input) (Knows job general input) held status made known
+
 pub made_of_nobody : (job : Job) (general : ℕ) (input : List ℕ) (made left : Option Kept) (status : ℕ) → status ≤ 1 → MakesJob job input made status → Knows job general input false → left ≡ None → MakesKnown job general input left 6
-made_of_nobody job general input made left status few is nobody empty = inl (refl, empty, (answered_at (JobAnswers job None input) (JobFacts job input) (JobFails job input) made status few is, nobody))
+made_of_nobody job general input made left status few is nobody empty = about_nobody (JobAnswers job None input) (JobFacts job input) (JobFails job input) (Knows job general input) made left status few is nobody empty

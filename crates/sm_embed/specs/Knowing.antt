@@ -7,6 +7,8 @@ use Rattle.gen_campaign.specs.CampaignSpelling.{campaign_spelling}
 use Rattle.gen_receipt.specs.ReceiptSpelling.{ReceiptFile, IsReceiptFile, file_spelling}
 use Rattle.gen_asked.specs.declared.jobs.Job.{Job}
 use Rattle.gen_asked.specs.declared.jobs.Job.TheVariants.{AccuseReceipts}
+use Rattle.gen_ends.specs.declared.ends.JobFault.{JobFault}
+use Rattle.gen_facts.specs.declared.fact.Fact.{Fact}
 use Rattle.gen_jobs.specs.Facts.{JobFacts}
 use Rattle.gen_jobs.specs.Jobs.{JobAnswers, JobFails}
 use Rattle.sm_embed.specs.Making.{IsMade}
@@ -33,20 +35,24 @@ abbrev pub Knows : Job → ℕ → List ℕ → Bool → Type 0
 Knows (AccuseReceipts g asked) general input known = ReceiptsKnow general input known
 Knows job general input known = RunsKnow general input known
 
--- the text is the job's answer to the input, and the general is one of its run's
-abbrev pub AnswersKnown : Job → ℕ → List ℕ → List ℕ → Bool → Type 0
-AnswersKnown job general input text negative =
-    JobAnswers job None input text negative × Knows job general input true
+-- A text says something, and the general is one of a run's.
+abbrev pub AnswersKnown : (Bool → Type 0) → (List ℕ → Bool → Type 0) → List ℕ → Bool → Type 0
+AnswersKnown IsKnown IsAnswer text negative = IsAnswer text negative × IsKnown true
 
--- the general is no run's, though the job has an answer to the input
-abbrev pub IsNobody : Job → ℕ → List ℕ → Type 0
-IsNobody job general input =
-    ((text : List ℕ) × (negative : Bool) × JobAnswers job None input text negative)
-    × Knows job general input false
+-- the general is no run's, though there is an answer
+abbrev pub IsNobody : (Bool → Type 0) → (List ℕ → Bool → Type 0) → Type 0
+IsNobody IsKnown IsAnswer = ((text : List ℕ) × (negative : Bool) × IsAnswer text negative) × IsKnown false
 
--- the number is 6, nothing is held, and the general is no run's; or what is made is the job's answer about a
--- general of a run
+-- The number is 6, nothing is held, and the general is no run's, though there is an answer. Or what is made is
+-- an answer, and the general is one of a run's.
+abbrev pub IsMadeAbout : (Bool → Type 0) → (List ℕ → Bool → Type 0) → (List Fact → Type 0)
+    → (JobFault → Type 0) → Option Kept → ℕ → Type 0
+IsMadeAbout IsKnown IsAnswer AreFacts IsFault held status =
+    ((status ≡ 6) × (held ≡ None) × IsNobody IsKnown IsAnswer)
+    ⊎ IsMade (AnswersKnown IsKnown IsAnswer) AreFacts IsFault held status
+
+-- the same of the job's answer to the input
 abbrev pub MakesKnown : Job → ℕ → List ℕ → Option Kept → ℕ → Type 0
 MakesKnown job general input held status =
-    ((status ≡ 6) × (held ≡ None) × IsNobody job general input)
-    ⊎ IsMade (AnswersKnown job general input) (JobFacts job input) (JobFails job input) held status
+    IsMadeAbout (Knows job general input) (JobAnswers job None input) (JobFacts job input)
+    (JobFails job input) held status

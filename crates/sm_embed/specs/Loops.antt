@@ -1,2 +1,3 @@
 -- What holds of private functions. No public contract names these definitions.
 pub mod Keeping
+pub mod Telling

@@ -99,8 +99,9 @@ fn keep_known(
 }
 
 /// Makes the answer of a job about a general, of runs that an admission admits in the system with the id that is asked for,
-/// and returns the number that says what is held. It is 6, and nothing is held, if the general is none of the input's.
-/// What was held before is dropped first.
+/// and returns the number that says what is held. It is 6, and nothing is held, if the job has an answer, and the general is
+/// none of the input's. What was held before is dropped first.
+#[tactic(auto, using(crate::proofs::Admitted::among_of_fault, crate::proofs::Admitted::among_of_known, crate::proofs::Admitted::among_of_nobody))]
 fn keep_known_among(
     alloc: Global,
     job: &Job,
