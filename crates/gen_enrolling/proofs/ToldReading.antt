@@ -1,5 +1,5 @@
 -- A reader of JSON finds the runs in an object that they were put in front of.
-use Rattle.std.proofs.Common.{◌≡◌, ◌≢◌, ℕ, ◌≤◌, suc, max, List, [], ◌∷◌, ◌++◌, Bool, true, false, codes, drop, get_or, Option, Some, None, option_and_then, option_map, refl, sym, ap, ◌∙◌, subst, arith, append-nil, append_assoc}
+use Rattle.std.proofs.Common.{◌≡◌, ◌≢◌, ℕ, ◌≤◌, suc, List, [], ◌∷◌, ◌++◌, Bool, true, false, codes, drop, get_or, Option, Some, None, option_and_then, option_map, refl, sym, ap, ◌∙◌, subst, arith, append-nil, append_assoc}
 use Rattle.std.proofs.lemmas.Option.{none-some, option_and_then_some, same_Some}
 use Rattle.json.specs.Json as json
 use Rattle.json.specs.Lex.{Lexeme, token, comma, colon, lex, between, Place, fresh, after_comma, place_token, begins_colon, punctuate, tokens}
@@ -20,7 +20,7 @@ use Rattle.gen_json.proofs.Plain.{items_plain, items_shallow, numbers_plain, num
 use Rattle.gen_enrolling.specs.declared.admitted.AdmittedRun.{AdmittedRun}
 use Rattle.gen_enrolling.specs.declared.admitted.AdmittedRuns.{AdmittedRuns}
 use Rattle.gen_enrolling.specs.Telling.{admitted_data, admitted_json, admitted_name, object_with, run_data}
-use Rattle.gen_enrolling.specs.ToldReading.{BeginsWith, ReadsBack, ReadsBeside}
+use Rattle.gen_enrolling.specs.ToldReading.{ReadsBack, ReadsBeside}
 use Rattle.gen_enrolling.proofs.Lexed.{member_and_more}
 use Rattle.gen_enrolling.proofs.Putting.{put_first}
 

@@ -1,5 +1,5 @@
 -- Jobs whose input must be of runs that an admission admits.
-use Rattle.std.specs.Prelude.{ℕ, ◌≡◌, Bool, List, [], ◌∷◌, filter, Option, Some, None, Result, Ok, Err}
+use Rattle.std.specs.Prelude.{ℕ, ◌≡◌, List, [], ◌∷◌, filter, Option, Some, None, Result, Ok, Err}
 use Rattle.gen_net.specs.Header.{run_id_of}
 use Rattle.gen_asked.specs.declared.asked_runs.AskedRuns.{AskedRuns}
 use Rattle.gen_asked.specs.declared.forms.Form.{Form}

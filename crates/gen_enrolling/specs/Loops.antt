@@ -3,7 +3,6 @@ use Rattle.std.specs.Prelude.{ℕ, ◌≡◌, ◌≤◌, ◌-◌, ◌^◌, true,
 use Rattle.std.specs.Io.KnownBytes.{Appends}
 use Rattle.gen_types.specs.declared.heights.TreeHeight.{TreeHeight}
 use Rattle.gen_identity.specs.Sets.{set_roots}
-use Rattle.gen_identity.specs.States.{state_after}
 use Rattle.gen_enroll.specs.RootFiles.{file_of_secret, file_spelling, roots_spelling}
 use Rattle.gen_enrolling.specs.Resuming.{goes_on}
 use Rattle.gen_enrolling.specs.declared.enroll_error.EnrollError.{EnrollError}

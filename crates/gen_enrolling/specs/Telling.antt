@@ -49,9 +49,13 @@ abbrev pub admitted_json : AdmittedRuns → List ℕ
 admitted_json a = codes "\"admitted\":" ++ compact_text (admitted_data a)
 
 -- a JSON object with this member in front of its others
+abbrev pub with_member : List ℕ → List ℕ → List ℕ
+with_member member [] = []
+with_member member (brace ∷ others) = brace ∷ (member ++ 44 ∷ others)
+
+-- a JSON object with these runs in front of its other members
 abbrev pub object_with : AdmittedRuns → List ℕ → List ℕ
-object_with a [] = []
-object_with a (brace ∷ others) = brace ∷ (admitted_json a ++ 44 ∷ others)
+object_with a object = with_member (admitted_json a) object
 
 -- an answer in a form, with what is told of runs that are admitted in front of it
 abbrev pub answer_with : Form → AdmittedRuns → List ℕ → List ℕ

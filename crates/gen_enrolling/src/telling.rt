@@ -5,7 +5,7 @@ ghost use Rattle.serde_json.specs.View.{view};
 ghost use Rattle.gen_asked.specs.declared.forms.Form.TheVariants.{Json};
 ghost use Rattle.gen_json.specs.JsonData.{list_of};
 ghost use Rattle.gen_enrolling.specs.ToldReading.{ReadsBack, ReadsBeside};
-ghost use Rattle.gen_enrolling.specs.Telling.{admitted_data, admitted_json, admitted_text, answer_with, node_behind_space, object_with, run_data, run_line};
+ghost use Rattle.gen_enrolling.specs.Telling.{admitted_data, admitted_json, admitted_text, answer_with, node_behind_space, object_with, run_data, run_line, with_member};
 
 use crate::admitted::{AdmittedRun, AdmittedRuns};
 use gen_asked::Form;
@@ -115,21 +115,28 @@ pub fn admitted_json(alloc: Global, admitted: &AdmittedRuns) -> Result<Vec<u8>, 
     Ok(member.into_bytes())
 }
 
+/// Returns a JSON object with this member in front of its others.
+fn with_member(alloc: Global, member: &[u8], object: &[u8]) -> Result<Vec<u8>, AllocError>
+    ensures { IfOk result (λ text. text.items ≡ with_member member.now object.now) }
+{
+    let mut text = Vec::new(alloc);
+    let Some((brace, others)) = object.split_first() else {
+        return Ok(text);
+    };
+    text.push(*brace)?;
+    text.extend_from_slice(member)?;
+    text.push(b',')?;
+    text.extend_from_slice(others)?;
+    Ok(text)
+}
+
 /// Returns a JSON object with the member that tells runs that are admitted in front of its others.
 fn object_with(alloc: Global, admitted: &AdmittedRuns, object: &[u8]) -> Result<Vec<u8>, AllocError>
     ensures text { IfOk result (λ text. text.items ≡ object_with admitted.now object.now) }
     ensures reads { IfOk result (λ text. ReadsBeside admitted.now object.now text.items) }
 {
     let member = admitted_json(alloc, admitted)?;
-    let mut text = Vec::new(alloc);
-    let Some((brace, others)) = object.split_first() else {
-        return Ok(text);
-    };
-    text.push(*brace)?;
-    text.extend_from_slice(&member)?;
-    text.push(b',')?;
-    text.extend_from_slice(others)?;
-    Ok(text)
+    with_member(alloc, &member, object)
 }
 
 /// Returns an answer in this form with what is told of runs that are admitted in front of it: lines before lines of text,

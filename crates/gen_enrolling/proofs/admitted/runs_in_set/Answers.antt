@@ -1,4 +1,4 @@
-use Rattle.std.proofs.Common.{◌≡◌, ◌∙◌, ℕ, arith}
+use Rattle.std.proofs.Common.{◌≡◌, ℕ, arith}
 use Rattle.gen_system.specs.Runs.{run_by}
 use Rattle.gen_enrolling.specs.Admitted.{RunTold, run_in, told_run}
 use Rattle.gen_enrolling.proofs.Told.{few_sets, run_more}

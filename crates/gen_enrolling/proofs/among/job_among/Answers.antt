@@ -1,4 +1,4 @@
-use Rattle.std.proofs.Common.{◌≡◌, ◌∙◌, List, Option, ap}
+use Rattle.std.proofs.Common.{◌≡◌, ◌∙◌, ap}
 use Rattle.std.specs.Prelude.{option_map}
 use Rattle.gen_enrolling.specs.Among.{ids_of, with_runs}
 use Rattle.gen_enrolling.specs.Asking.{asked_by}

@@ -1,10 +1,9 @@
-use Rattle.std.proofs.Common.{rules, ◌≡◌, ◌≤◌, ◌<◌, ◌+◌, ◌-◌, ◌*◌, ◌/◌, ◌^◌, ◌&&◌, ◌++◌, ℕ, Bool, true, false, List, length, take, drop, nat_eq, refl, sym, ap, ap₂, ◌∙◌, arith, pow_mono}
-use Rattle.std.specs.List.{starts_with}
+use Rattle.std.proofs.Common.{rules, ◌≡◌, ◌≤◌, ◌<◌, ◌+◌, ◌-◌, ◌*◌, ◌/◌, ◌^◌, ◌++◌, ℕ, true, false, List, length, drop, refl, sym, ap, ap₂, ◌∙◌, arith, pow_mono}
 use Rattle.std.proofs.lemmas.List.{length-drop}
 use Rattle.gen_enroll.specs.RootFiles.{head_spelling}
 use Rattle.gen_identity.specs.States.{state_after}
 use Rattle.gen_enrolling.specs.Loops.{file_from, roots_from}
-use Rattle.gen_enrolling.specs.Resuming.{goes_on, place_of}
+use Rattle.gen_enrolling.specs.Resuming.{place_of}
 use Rattle.gen_enrolling.proofs.Missing.{Touched, are_touched, goes_on_is, length_of_file, missing_is, same_tests, too_long}
 use Rattle.gen_enrolling.proofs.fronts.begun_behind.Goals as goal
 
