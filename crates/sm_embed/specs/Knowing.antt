@@ -35,7 +35,7 @@ abbrev pub Knows : Job → ℕ → List ℕ → Bool → Type 0
 Knows (AccuseReceipts g asked) general input known = ReceiptsKnow general input known
 Knows job general input known = RunsKnow general input known
 
--- A text says something, and the general is one of a run's.
+-- the text is an answer, and the general is one of a run's
 abbrev pub AnswersKnown : (Bool → Type 0) → (List ℕ → Bool → Type 0) → List ℕ → Bool → Type 0
 AnswersKnown IsKnown IsAnswer text negative = IsAnswer text negative × IsKnown true
 
@@ -43,8 +43,8 @@ AnswersKnown IsKnown IsAnswer text negative = IsAnswer text negative × IsKnown 
 abbrev pub IsNobody : (Bool → Type 0) → (List ℕ → Bool → Type 0) → Type 0
 IsNobody IsKnown IsAnswer = ((text : List ℕ) × (negative : Bool) × IsAnswer text negative) × IsKnown false
 
--- The number is 6, nothing is held, and the general is no run's, though there is an answer. Or what is made is
--- an answer, and the general is one of a run's.
+-- The number is 6, nothing is held, and the general is no run's, though there is an answer. Or what is made
+-- is an answer, and the general is one of a run's.
 abbrev pub IsMadeAbout : (Bool → Type 0) → (List ℕ → Bool → Type 0) → (List Fact → Type 0)
     → (JobFault → Type 0) → Option Kept → ℕ → Type 0
 IsMadeAbout IsKnown IsAnswer AreFacts IsFault held status =
