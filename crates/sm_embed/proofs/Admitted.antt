@@ -2,7 +2,6 @@
 use native.Mathlib.Omega.{arith}
 use Rattle.std.proofs.Common.{◌≡◌, ◌<◌, ◌≤◌, ℕ, Bool, true, false, List, Option, Some, None, Result, Ok, Err, ◌⊎◌, inl, inr, subst}
 use Rattle.std.specs.Prelude.{IfOk, IfErr}
-use Rattle.std.proofs.lemmas.Option.{none-some}
 use Rattle.gen_asked.specs.declared.forms.Form.{Form}
 use Rattle.gen_asked.specs.declared.jobs.Job.{Job}
 use Rattle.gen_ends.specs.declared.ends.JobFault.{JobFault}

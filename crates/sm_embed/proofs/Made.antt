@@ -1,5 +1,5 @@
 -- What is held of what was made for a call of systems.
-use Rattle.std.proofs.Common.{◌≡◌, ℕ, List, Option, Some, None, Result, Ok, Err, ◌⊎◌, inl, inr, sym, subst}
+use Rattle.std.proofs.Common.{◌≡◌, ℕ, List, Option, Result, Ok, Err, inl, inr, sym, subst}
 use Rattle.std.specs.Prelude.{IfOk, IfErr}
 use Rattle.gen_types.specs.Reading.{Gives}
 use Rattle.gen_types.specs.declared.reading.ReadError.{ReadError}

@@ -5,7 +5,7 @@ use Rattle.std.specs.List.{flat_map, range_with_len}
 use Rattle.std.proofs.lemmas.List.{append-nil}
 use Rattle.std.proofs.lemmas.Grind.{common_steps, flat_map-append}
 use Rattle.gen_enrolling.specs.declared.admitted.AdmittedRun.{AdmittedRun}
-use Rattle.gen_enrolling.specs.Admitted.{RunTold, told_run}
+use Rattle.gen_enrolling.specs.Admitted.{told_run}
 use Rattle.sm_embed.specs.RunFacts.{no_run}
 
 -- one number more

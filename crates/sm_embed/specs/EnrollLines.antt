@@ -2,7 +2,6 @@
 use Rattle.std.specs.Prelude.{ℕ, ◌++◌, List, codes}
 use Rattle.std.specs.Fmt.{decimal}
 use Rattle.gen_enroll.specs.FaultNumber.{roots_fault_number}
-use Rattle.gen_enroll.specs.declared.roots_fault.RootsFault.{RootsFault}
 use Rattle.gen_system.specs.FaultNumber.{admission_fault_number, system_fault_number}
 use Rattle.gen_system.specs.declared.admission_fault.AdmissionFault.{AdmissionFault}
 use Rattle.gen_system.specs.declared.admission_fault.AdmissionFault.TheVariants as admissions

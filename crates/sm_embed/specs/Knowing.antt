@@ -1,5 +1,5 @@
 -- Jobs about a general that may be none of the input's generals.
-use Rattle.std.specs.Prelude.{ℕ, ◌≡◌, ◌⊎◌, Bool, true, false, List, Option, Some, None, nat_lt}
+use Rattle.std.specs.Prelude.{ℕ, ◌≡◌, ◌⊎◌, Bool, true, false, List, Option, None, nat_lt}
 use Rattle.std.specs.List.{list_any}
 use Rattle.gen_types.specs.Spelled.{Spells}
 use Rattle.gen_campaign.specs.Campaign.{CampaignBundle, IsCampaign}

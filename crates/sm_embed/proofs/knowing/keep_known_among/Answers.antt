@@ -1,4 +1,4 @@
-use Rattle.std.proofs.Common.{◌≡◌, subst}
+use Rattle.std.proofs.Common.{subst}
 use Rattle.sm_embed.specs.Knowing.{Knows}
 use Rattle.sm_embed.proofs.Admitted.{among_of_fault, among_of_known, among_of_nobody}
 use Rattle.sm_embed.proofs.knowing.keep_known_among.Goals as goal

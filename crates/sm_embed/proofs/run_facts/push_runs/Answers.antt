@@ -1,5 +1,4 @@
-use Rattle.std.proofs.Common.{◌≡◌, ◌<◌, ◌∙◌, List, map, ap, sym, arith, length}
-use Rattle.gen_facts.specs.declared.fact.Fact.{Fact}
+use Rattle.std.proofs.Common.{◌≡◌, ◌<◌, ◌∙◌, map, ap, sym, arith, length}
 use Rattle.gen_enrolling.specs.Admitted.{RunTold, told_run}
 use Rattle.sm_embed.specs.RunFacts.{facts_at, run_facts}
 use Rattle.sm_embed.proofs.Telling.{grown, told_at}

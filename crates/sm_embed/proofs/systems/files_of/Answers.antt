@@ -1,4 +1,4 @@
-use Rattle.std.proofs.Common.{◌≡◌, ◌∙◌, List, map, ap}
+use Rattle.std.proofs.Common.{◌∙◌, List, map, ap}
 use Rattle.std.proofs.lemmas.List.{take_all}
 use Rattle.sm_embed.specs.declared.systems.SmRoots.{SmRoots}
 use Rattle.sm_embed.proofs.Files.{same_files, taken_file}

@@ -1,10 +1,8 @@
 -- An answer for C may go from thread to thread: what its pointer owns says the same to each.
-use base.Fraction.{full_share}
 use base.Shift.{Keyless}
 use mir.Raw.{raw}
 use denote.Builtin.{RawPtr}
 use denote.Memory.{lone}
-use denote.RattleType.{RattleType}
 use denote.RawPtr.{Ptr}
 use denote.Param.Send.{IsSend, AllSend, owning_send, struct_send, sendable}
 use denote.Struct.Struct.{exits_of}
