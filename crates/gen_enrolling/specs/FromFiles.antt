@@ -25,8 +25,8 @@ abbrev pub AreEnrolled : RunSystem → (ℕ → List ℕ) → List NodeRoots →
 AreEnrolled s secret files =
     map file_told files ≡ map (file_made s secret) (range_with_len 0 s.header.network.generals)
 
--- The bytes are an admission. It admits the header of the run, in which the root of the general that a node is
--- has the keys that the node makes of its secret.
+-- The bytes are an admission. It admits the header of the run, in which the root of the general that a node
+-- is has the keys that the node makes of its secret.
 pub record BytesLead (s : RunSystem) (run : ℕ) (secret : ℕ → List ℕ) (bytes : List ℕ) : Type 0 where
   pub admission : SetAdmission
   pub read : whole_admission bytes ≡ Ok admission
@@ -40,8 +40,8 @@ FilesLead = (s : RunSystem) (run : ℕ) (secret : ℕ → List ℕ) (files : Lis
     → (bytes : List ℕ) × (admission_given run (system_spelling s) files ≡ Ok (bytes, system_id_of s))
     × BytesLead s run secret bytes
 
--- If an admission is made of such files, the identities of the system are those of the secrets, and the run is
--- one of the system's.
+-- If an admission is made of such files, the identities of the system are those of the secrets, and the run
+-- is one of the system's.
 abbrev pub FilesAreChecked : Type 0
 FilesAreChecked = (s : RunSystem) (run : ℕ) (secret : ℕ → List ℕ) (files : List NodeRoots)
     (made : List ℕ × List ℕ)
