@@ -209,20 +209,19 @@ def next_system(lab):
         told = made.nodes[0].ask(ask="propose", value={"name": "close"})
         await_that(lambda: all(len(decided_in(made, node, second.id)) >= 12 for node in range(4)), "each node decides in the next system")
         for node in range(4):
-            runs = decided_in(made, node, made.id)
-            lacks = set(range(min(runs), last + 1)) - set(runs)
-            wants(not lacks, f"node {node} lost runs {lacks} of the first system")
-            runs = decided_in(made, node, second.id)
-            wants(min(runs) == 0 and set(range(max(runs))) <= set(runs), f"node {node} decided runs {sorted(runs)} of the next system")
+            runs = decided_in(made, node, made.id), decided_in(made, node, second.id)
+            lacks = {last - 2, last - 1, last} - set(runs[0]), {0, 1, 2} - set(runs[1])
+            wants(not any(lacks), f"node {node} lost runs {lacks[0]} at the end of the first system, and {lacks[1]} of the next one")
         for number in range(12):
-            orders = {decided_in(made, node, second.id)[number]["order"] for node in range(4)}
-            wants(len(orders) == 1, f"run {number} of the next system: {orders}")
+            orders = {it["order"] for node in range(4) for it in [decided_in(made, node, second.id).get(number)] if it and it["in_time"]}
+            wants(len(orders) <= 1, f"run {number} of the next system: {orders}")
         wants(told.get("system") in (made.id, second.id), f"a proposal at the end of the first system: {told}")
         wants(decided_in(made, 0, told["system"])[told["run"]]["value"] == {"name": "close"}, f"the proposal {told} is not decided")
         wants({made.status(node)["system"] for node in range(4)} == {second.id}, "the status is not of the next system")
         wants(not made.alarms(0, "next"), f"alarms: {made.alarms(0, 'next')}")
         # Nobody takes the logs: each node waits for a watcher before it ends.
-        wants(all(made.ends(node, 20) for node in range(4)), f"SIGTERM does not end the processes: {made.said(0)[-3:]}")
+        ended = {node: made.ends(node, 20) for node in range(4)}
+        wants(all(ended.values()), f"SIGTERM ends the processes: {ended}, {[made.nodes[node].process.poll() for node in range(4)]}")
         found = second.convicted() if lab.judges else None
         wants(not found, f"convicted in the next system: {found}")
 
