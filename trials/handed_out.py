@@ -22,7 +22,7 @@ import time
 
 from attack_lab import Attacked, Lab, await_that, going, message, plain, read_message, wants
 from bindings import build_libraries
-from cargo_built import build_program
+from cargo_built import build_program, node_program
 from controllers import ORDERS, PATIENCE, Wrong, named
 from embed import EMBED, TOP, source
 from programs import run
@@ -266,7 +266,7 @@ class Valve:
 def obeyed(made):
     """A valve does not open by a node that lies to it. It does by the next one, once m + 1 nodes show that it opens, and closes again."""
     second, libraries = made.nodes[1], made.path("libraries")
-    build_libraries(libraries, source("heap.c"))
+    build_libraries(libraries, source("heap.c"), {it: node_program.archive_of(TOP, it) for it in node_program.ARCHIVES})
     device = Device(made, 1)
     number = second.ask(ask="propose", value={"name": "open"})["run"]
     old = next(it for it in device.until(number)[0] if it.run == number)
