@@ -183,7 +183,7 @@ def second_system(lab, made):
     over = made.start + (4 << made.plan.levels) * made.plan.period
     folder = made.path("second")
     os.mkdir(folder)
-    plan = dataclasses.replace(made.plan, ahead=over - int(time.time() * 1000))
+    plan = dataclasses.replace(made.plan, levels=made.plan.levels + 3, ahead=over - int(time.time() * 1000))
     second = type(made)(lab.tool, lab.program, folder, plan, Fronts(made.plan.nodes + 1))
     for node in range(made.plan.nodes):
         with open(made.path(f"{node}.toml"), "a", encoding="utf-8") as file:
