@@ -1,4 +1,6 @@
 pub mod Admitting
+pub mod Ends
 pub mod Kinds
+pub mod Many
 pub mod Refusal
 pub mod Sources

@@ -4,18 +4,18 @@ ghost use Rattle.gen_asked.specs.Ranges.{IsInRange};
 ghost use Rattle.gen_ends.specs.declared.ends.JobFault.TheVariants.{Memory};
 ghost use Rattle.gen_jobs.specs.Jobs.{JobAnswers, JobFails};
 ghost use Rattle.gen_program.specs.Admitting.{input_runs, job_asked, tells_beside, with_runs};
-ghost use Rattle.gen_program.specs.Refusal.{IsStatus};
+ghost use Rattle.gen_program.specs.Ends.{IsEnd};
 
 use crate::asking::{Admission, Asking};
 use crate::details::{STANDARD_INPUT, Seen};
 use crate::ends::{Ended, finish_seen};
 use crate::kinds::answers_in_json;
-use crate::systems::fail_enrolling;
+use crate::systems::fail_admission;
 use crate::watching::{WatchedReader, WatchedWriter};
 use gen_asked::{Asked, AskedRuns, Form, Job};
 use gen_campaign::file_runs;
 use gen_enrolling::{
-    AdmittedRuns, EnrollError, admitted_text, answer_with, keep_runs, runs_admitted, runs_asked,
+    AdmittedRuns, admitted_text, answer_with, keep_runs, runs_admitted, runs_asked,
 };
 use gen_jobs::{JobEnd, JobFault, Output, answer, deliver, read_all};
 use gen_receipt::read_receipts;
@@ -222,7 +222,7 @@ pub(crate) fn finish_admitted<R: AllocGlobal + Print + Eprint + Threads + Wait +
     reader: &mut S,
 ) -> Ended
     requires { IsInRange asking.now.job.now }
-    ensures { IsStatus result.status }
+    ensures { IsEnd result }
 {
     let mut output = io::writer(rt);
     let mut reader = WatchedReader::new(reader);
@@ -233,9 +233,7 @@ pub(crate) fn finish_admitted<R: AllocGlobal + Print + Eprint + Threads + Wait +
                 write_told(rt, asking.job, name, &mut admitted, input, &mut writer)
             }
             Err(ReadError::Memory) => JobEnd::Failed(JobFault::Memory),
-            Err(ReadError::Fault(fault)) => {
-                return Ended::with(fail_enrolling(rt, EnrollError::Fault(fault)));
-            }
+            Err(error) => return Ended::with(fail_admission(rt, error)),
         },
         Err(fault) => JobEnd::Failed(fault),
     };

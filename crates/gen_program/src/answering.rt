@@ -1,9 +1,6 @@
 //! Jobs from an input to standard output.
-ghost use Rattle.std.specs.Prelude.{◌≡◌};
-ghost use Rattle.gen_ends.specs.Ends.{status_of};
 ghost use Rattle.gen_asked.specs.Ranges.{IsInRange};
-ghost use Rattle.gen_ends.specs.declared.ends.JobEnd.{JobEnd};
-ghost use Rattle.gen_program.specs.Refusal.{IsStatus};
+ghost use Rattle.gen_program.specs.Ends.{IsEnd};
 
 use crate::admitting::finish_admitted;
 use crate::asking::Asking;
@@ -31,7 +28,7 @@ pub(crate) fn finish_over<R: AllocGlobal + Print + Eprint + Threads + Wait + Syn
     reader: &mut S,
 ) -> Ended
     requires { IsInRange asking.now.job.now }
-    ensures { (end : JobEnd) × (result.status ≡ status_of end) }
+    ensures { IsEnd result }
 {
     let (job, prints_runs) = (asking.job, asking.prints_runs);
     let mut output = io::writer(rt);
@@ -60,7 +57,7 @@ fn finish_reader<R: AllocGlobal + Print + Eprint + Threads + Wait + Sync, S: Rea
     reader: &mut S,
 ) -> Ended
     requires { IsInRange asking.now.job.now }
-    ensures { IsStatus result.status }
+    ensures { IsEnd result }
 {
     match &asking.admission {
         Some(admission) => finish_admitted(rt, asking, admission, name, reader),
@@ -73,7 +70,7 @@ pub(crate) fn finish_source<
     R: Files + Terminals + AllocGlobal + Input + Print + Eprint + Threads + Wait + Sync,
 >(rt: &R, asking: &Asking<'_>, source: Source<'_>) -> Ended
     requires { IsInRange asking.now.job.now }
-    ensures { IsStatus result.status }
+    ensures { IsEnd result }
 {
     match source {
         Source::Standard => {
@@ -82,7 +79,7 @@ pub(crate) fn finish_source<
         }
         Source::Named(name) => match File::open(rt, name) {
             Ok(mut file) => finish_reader(rt, asking, Some(name), &mut file),
-            Err(error) => Ended::with(finish_unopened(rt, asking.job, name, error)),
+            Err(error) => finish_unopened(rt, asking.job, name, error),
         },
     }
 }

@@ -1,5 +1,7 @@
 //! What is told of a job that failed, in a line behind that of its fault.
-ghost use Rattle.std.specs.Prelude.{codes};
+ghost use Rattle.std.specs.Prelude.{◌≡◌, codes};
+ghost use Rattle.std.specs.Char.{is_ascii_control};
+ghost use Rattle.std.specs.List.{list_any};
 ghost use Rattle.gen_program.specs.Kinds.{IsDetail, IsRefused, TellsRead, TellsWrite};
 
 use crate::kinds::other_kind;
@@ -117,6 +119,13 @@ pub(crate) fn detail_of<'a>(job: &Job, fault: JobFault, seen: &Seen<'a>) -> Opti
     }
 }
 
+/// Returns whether a name has an ASCII control character.
+pub(crate) fn has_control(name: &str) -> bool
+    ensures { result ≡ list_any is_ascii_control name.now }
+{
+    name.as_bytes().iter().any(|byte| byte.is_ascii_control())
+}
+
 /// The name of a file in a line. A name with a character that would end the line or hide some of it has escapes.
 #[derive(Clone, Copy)]
 pub(crate) struct FileName<'a>(pub(crate) &'a str);
@@ -124,7 +133,7 @@ pub(crate) struct FileName<'a>(pub(crate) &'a str);
 impl<'a> Display for FileName<'a> {
     fn fmt<W: fmt::Write>(&self, f: &mut Formatter<W>) -> fmt::Result {
         let name = self.0;
-        if name.as_bytes().iter().any(|byte| byte.is_ascii_control()) {
+        if has_control(name) {
             write!(f, "{}", name.escape_debug())
         } else {
             write!(f, "{name}")

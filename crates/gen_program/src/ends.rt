@@ -1,7 +1,8 @@
 //! What is told of how a job ended, on standard error and as JSON on standard output, and the exit status of its end.
 ghost use Rattle.std.specs.Prelude.{◌≡◌};
 ghost use Rattle.gen_ends.specs.Ends.{status_of};
-ghost use Rattle.gen_ends.specs.declared.ends.JobEnd.{JobEnd};
+ghost use Rattle.gen_ends.specs.declared.ends.JobEnd.TheVariants.{Failed};
+ghost use Rattle.gen_program.specs.Ends.{IsEnd, IsEndOf, IsOpen, is_unwritten};
 
 use crate::asking::Asking;
 use crate::details::{Detail, Seen, detail_of};
@@ -50,12 +51,39 @@ pub(crate) struct Ended {
 impl Ended {
     /// Returns the end with this status, behind which another answer can be written.
     pub(crate) fn with(status: u8) -> Ended
-        ensures { result.status ≡ status }
+        ensures status { result.status ≡ status }
+        ensures unclosed { IsOpen result }
     {
         Ended {
             status,
             is_last: false,
         }
+    }
+}
+
+/// Whether a job ended since its answer could not be written.
+pub(crate) fn is_unwritten(end: JobEnd) -> bool
+    ensures { result ≡ is_unwritten end }
+{
+    matches!(end, JobEnd::Failed(JobFault::Write))
+}
+
+/// Writes a fault of a job to standard output, if the job answers in JSON, and returns what is told of the fault behind its
+/// line. Of one of several inputs some line names the file.
+fn tell_fault<'a, R: AllocGlobal + Print>(
+    rt: &R,
+    asking: &Asking<'_>,
+    name: Option<&str>,
+    fault: JobFault,
+    seen: &Seen<'a>,
+) -> Option<Detail<'a>> {
+    // Some of the output may be written where a write failed.
+    if answers_in_json(asking.job) && fault != JobFault::Write {
+        write_fault(rt, fault, name, seen.front);
+    }
+    match detail_of(asking.job, fault, seen) {
+        None if asking.is_of_several => Some(Detail::Within { file: seen.file }),
+        detail => detail,
     }
 }
 
@@ -67,44 +95,38 @@ pub(crate) fn finish_seen<R: AllocGlobal + Print + Eprint>(
     end: JobEnd,
     seen: &Seen<'_>,
 ) -> Ended
-    ensures { result.status ≡ status_of end }
+    ensures { IsEndOf end result }
 {
-    let job = asking.job;
-    let Some(fault) = end.fault() else {
-        return Ended::with(end_with(rt, end, None));
+    let detail = match end.fault() {
+        Some(fault) => tell_fault(rt, asking, name, fault, seen),
+        None => None,
     };
-    let is_last = fault == JobFault::Write;
-    // Some of the output may be written where a write failed.
-    if answers_in_json(job) && !is_last {
-        write_fault(rt, fault, name, seen.front);
+    Ended {
+        status: end_with(rt, end, detail),
+        is_last: is_unwritten(end),
     }
-    let detail = match detail_of(job, fault, seen) {
-        None if asking.is_of_several => Some(Detail::Within { file: seen.file }),
-        detail => detail,
-    };
-    let status = end_with(rt, end, detail);
-    Ended { status, is_last }
 }
 
-/// Tells why the file of a job was not opened, and returns the exit status.
+/// Tells why the file of a job was not opened, and returns how the job ended.
+#[tactic(auto, using(crate::proofs::Ended::unopened))]
 pub(crate) fn finish_unopened<R: AllocGlobal + Print + Eprint>(
     rt: &R,
     job: &Job,
     name: &str,
     error: io::Error,
-) -> u8
-    ensures { (end : JobEnd) × (result ≡ status_of end) }
+) -> Ended
+    ensures { IsEnd result }
 {
     let failure = Failure::of_open(name, error);
     if answers_in_json(job) {
         write_fault(rt, failure.fault, Some(name), &[]);
     }
-    fail_with(rt, &failure)
+    Ended::with(fail_with(rt, &failure))
 }
 
 /// Tells a failure, and returns the exit status.
 pub(crate) fn fail_with<R: Eprint>(rt: &R, failure: &Failure<'_>) -> u8
-    ensures { (end : JobEnd) × (result ≡ status_of end) }
+    ensures { result ≡ status_of (Failed failure.now.fault) }
 {
     end_with(rt, JobEnd::Failed(failure.fault), failure.detail)
 }
@@ -113,7 +135,7 @@ pub(crate) fn fail_with<R: Eprint>(rt: &R, failure: &Failure<'_>) -> u8
 pub(crate) fn end_written<R: Eprint>(rt: &R, end: JobEnd, failure: Option<io::Error>) -> u8
     ensures { result ≡ status_of end }
 {
-    let detail = if end == JobEnd::Failed(JobFault::Write) {
+    let detail = if is_unwritten(end) {
         Some(Detail::of_write(failure))
     } else {
         None

@@ -1,79 +1,163 @@
 //! The commands that answer several files, one after another.
-ghost use Rattle.std.specs.Prelude.{IfOk};
+ghost use Rattle.std.specs.Prelude.{◌≡◌, ◌==◌, IfOk, IfSome, Some, false, length, map, option_map};
+ghost use Rattle.std.specs.List.{slice_split};
+ghost use Rattle.serde_json.specs.Data.{string};
+ghost use Rattle.serde_json.specs.View.{view};
 ghost use Rattle.gen_asked.specs.Ranges.{IsInRange};
-ghost use Rattle.gen_program.specs.Refusal.{IsStatus};
+ghost use Rattle.gen_json.specs.Line.{ReadsAs, json_line};
+ghost use Rattle.gen_json.specs.OriginData.{maybe};
+ghost use Rattle.gen_program.specs.Ends.{IsEnd};
+ghost use Rattle.gen_program.specs.Many.{AreEnds, AreSources, IsHeading, IsOfListing, NamesInput, heading_data, inputs_named, names_in, status_of_all};
+ghost use Rattle.gen_program.specs.Sources.{name_of, named_by};
 
 use crate::answering::finish_source;
 use crate::asking::Asking;
-use crate::details::{FileName, STANDARD_INPUT};
-use crate::ends::{Ended, end_written, fail_with};
+use crate::details::{FileName, STANDARD_INPUT, has_control};
+use crate::ends::{Ended, end_written, fail_with, is_unwritten};
 use crate::kinds::answers_in_json;
 use crate::reading::read_file;
 use crate::sources::{Source, source_of};
-use crate::systems::fail_enrolling;
+use crate::systems::fail_admission;
 use crate::terminals::Terminals;
 use crate::watching::WatchedWriter;
 use gen_asked::{Form, Job};
-use gen_enrolling::{EnrollError, runs_admitted};
+use gen_enrolling::runs_admitted;
 use gen_jobs::{JobEnd, JobFault, Output, deliver};
 use gen_json::{JSON_VERSION, ObjectBuilder, TOOL_VERSION, value_line};
 use gen_words::{Listing, WordsFault};
-use serde_json::Value;
+use serde_json::{ToValue, Value};
 use std::alloc::{AllocError, Global};
 use std::io;
 use std::rt::Files;
 use std::sync::Wait;
 use std::thread::Threads;
 
-/// Returns where several inputs come from: the files that words name, and then those of a list, whose names have a zero byte
-/// between them. A minus stands for standard input where it is a word, and not in the list.
-fn sources_in<'a>(
-    alloc: Global,
-    words: &[&'a str],
-    list: &'a str,
-) -> Result<Vec<Source<'a>>, AllocError> {
+/// Returns what stands between the zero bytes of a list.
+fn parts_of<'a>(alloc: Global, list: &'a [u8]) -> Result<Vec<&'a [u8]>, AllocError>
+    ensures { IfOk result (λ parts. map (λ part. part.now) parts.items
+        ≡ slice_split (λ b. b == 0) list.now) }
+{
+    list.split(|byte| *byte == 0).collect(alloc)
+}
+
+/// Returns the names in a list, which has a zero byte behind each or between them.
+fn names_in<'a>(alloc: Global, list: &'a [u8]) -> Result<Vec<&'a [u8]>, AllocError>
+    ensures { IfOk result (λ names. map (λ name. name.now) names.items ≡ names_in list.now) }
+{
+    let mut names = parts_of(alloc, list)?;
+    names.retain(|name| !name.is_empty());
+    Ok(names)
+}
+
+/// Returns where the inputs come from that words name, in their order.
+fn word_sources<'a>(alloc: Global, words: &[&'a str]) -> Result<Vec<Source<'a>>, AllocError>
+    ensures { IfOk result (λ sources. map name_of sources.items
+        ≡ map named_by (map (λ word. word.now) words.now)) }
+{
     let mut sources = Vec::new(alloc);
     for word in words {
         sources.push(source_of(Some(*word)))?;
     }
-    for name in list.split('\0') {
-        if !name.is_empty() {
-            sources.push(Source::Named(name))?;
-        }
-    }
     Ok(sources)
 }
 
+/// Returns the files of these names, in their order; None if a name is not UTF-8.
+fn named_sources<'a>(
+    alloc: Global,
+    names: &[&'a [u8]],
+) -> Result<Option<Vec<Source<'a>>>, AllocError>
+    ensures { IfOk result (λ found. IfSome found (λ sources. map name_of sources.items
+        ≡ map Some (map (λ name. name.now) names.now))) }
+{
+    let mut sources = Vec::new(alloc);
+    for name in names {
+        match str::from_utf8(*name) {
+            Ok(name) => sources.push(Source::Named(name))?,
+            Err(_) => return Ok(None),
+        }
+    }
+    Ok(Some(sources))
+}
+
+/// Returns where several inputs come from: the files that words name, and then those of a list, whose names have a zero byte
+/// between them. A minus stands for standard input where it is a word, and not in the list. None if a name in the list is
+/// not UTF-8.
+fn sources_in<'a>(
+    alloc: Global,
+    words: &[&'a str],
+    list: &'a [u8],
+) -> Result<Option<Vec<Source<'a>>>, AllocError>
+    // They are in the order of the words and of the list.
+    ensures { IfOk result (λ found. IfSome found (λ sources. AreSources sources.items
+        (inputs_named (map (λ word. word.now) words.now) list.now))) }
+{
+    let names = names_in(alloc, list)?;
+    let mut sources = word_sources(alloc, words)?;
+    match named_sources(alloc, &names)? {
+        Some(named) => {
+            sources.extend_from_slice(&named)?;
+            Ok(Some(sources))
+        }
+        None => Ok(None),
+    }
+}
+
+/// Returns a text as JSON, and null if there is none.
+fn name_value(alloc: Global, name: Option<&str>) -> Result<Value, AllocError>
+    ensures { IfOk result (λ v. view v ≡ maybe string (option_map (λ t. t.now) name.entry)) }
+{
+    match name {
+        Some(name) => name.to_value(alloc),
+        None => Ok(Value::Null),
+    }
+}
+
 /// Returns the line of JSON that stands before the lines of an input, whose file has this name, if it has one.
-fn json_heading(alloc: Global, name: Option<&str>) -> Result<Vec<u8>, AllocError> {
+fn json_heading(alloc: Global, name: Option<&str>) -> Result<Vec<u8>, AllocError>
+    // It is the line of this value, byte for byte.
+    ensures text { IfOk result (λ line. line.items
+        ≡ json_line (heading_data (option_map (λ t. t.now) name.entry))) }
+    // A reader of JSON finds this value in it.
+    ensures reads { IfOk result (λ line. ReadsAs line.items
+        (heading_data (option_map (λ t. t.now) name.entry))) }
+{
     let mut object = ObjectBuilder::new(alloc);
     object.put_text("format", "file");
-    match name {
-        Some(name) => object.put_text("name", name),
-        None => object.put("name", Value::Null),
-    }
+    object.put_made("name", name_value(alloc, name));
     object.put_text("tool", TOOL_VERSION);
     object.put("version", Value::from(JSON_VERSION));
-    value_line(alloc, &object.finish()?)
+    let value = object.finish()?;
+    value_line(alloc, &value)
+}
+
+/// Returns the line that names an input before the lines of its answer.
+fn text_heading(alloc: Global, name: Option<&str>) -> Result<Vec<u8>, AllocError>
+    ensures { IfOk result (λ line. NamesInput (option_map (λ t. t.now) name.entry) line.items) }
+{
+    let file = name.unwrap_or(STANDARD_INPUT);
+    let line = if has_control(file) {
+        let file = FileName(file);
+        format!(in alloc; "file {file}\n")?
+    } else {
+        format!(in alloc; "file {file}\n")?
+    };
+    Ok(line.into_bytes())
 }
 
 /// Returns the line that stands before the answer to one of several inputs. An answer that is one line of JSON names its
 /// input, so that nothing stands before it.
-fn heading_of(alloc: Global, job: &Job, source: &Source<'_>) -> Result<Output, JobFault> {
-    let name = match source {
-        Source::Standard => None,
-        Source::Named(name) => Some(*name),
-    };
+fn heading_of(alloc: Global, job: &Job, source: Source<'_>) -> Result<Output, JobFault>
+    ensures heading { IfOk result (λ o. IsHeading job.now (name_of source.entry) o.text.items) }
+    ensures negative { IfOk result (λ o. o.negative ≡ false) }
+{
+    let name = source.name();
     let text = match job {
         Job::Show {
             asked: _,
             form: Form::Json,
         } => json_heading(alloc, name)?,
         _ if answers_in_json(job) => Vec::new(alloc),
-        _ => {
-            let file = FileName(name.unwrap_or(STANDARD_INPUT));
-            format!(in alloc; "file {file}\n")?.into_bytes()
-        }
+        _ => text_heading(alloc, name)?,
     };
     let negative = false;
     Ok(Output { text, negative })
@@ -86,40 +170,53 @@ fn answer_one<R: Files + Terminals + AllocGlobal + Input + Print + Eprint + Thre
     source: &Source<'_>,
 ) -> Ended
     requires { IsInRange asking.now.job.now }
-    ensures { IsStatus result.status }
+    ensures { IsEnd result }
 {
     let mut output = io::writer(rt);
     let mut writer = WatchedWriter::new(&mut output);
-    let end = deliver(&mut writer, heading_of(rt.alloc(), asking.job, source));
+    let end = deliver(&mut writer, heading_of(rt.alloc(), asking.job, *source));
     if end == JobEnd::Done {
         finish_source(rt, asking, *source)
     } else {
         Ended {
             status: end_written(rt, end, writer.failure),
-            is_last: true,
+            is_last: is_unwritten(end),
         }
     }
 }
 
-/// Answers several inputs in their order, and returns the greatest of the exit statuses. If an answer cannot be written, no
-/// input behind it is read.
+/// Answers several inputs in their order, and returns how each ended. If an answer cannot be written, no input behind it is
+/// read.
+///
+/// # Errors
+///
+/// `AllocError` if memory is refused, before any input is read.
 fn answer_each<R: Files + Terminals + AllocGlobal + Input + Print + Eprint + Threads + Wait + Sync>(
     rt: &R,
     asking: &Asking<'_>,
     sources: &[Source<'_>],
-) -> u8
+) -> Result<Vec<Ended>, AllocError>
     requires { IsInRange asking.now.job.now }
-    ensures { IsStatus result }
+    ensures { IfOk result (λ ends. AreEnds (length sources.now) ends.items) }
 {
-    let mut status = JobEnd::Done.status();
+    let mut ends = Vec::with_capacity(rt.alloc(), sources.len())?;
     for source in sources {
         let ended = answer_one(rt, asking, source);
-        if ended.status > status {
-            status = ended.status;
-        }
+        ends.push_reserved(ended);
         if ended.is_last {
-            return status;
+            return Ok(ends);
         }
+    }
+    Ok(ends)
+}
+
+/// Returns the greatest of the statuses of ends; 0 if there are none.
+fn greatest_status(ends: &[Ended]) -> u8
+    ensures { result ≡ status_of_all ends.now }
+{
+    let mut status = JobEnd::Done.status();
+    for ended in ends {
+        status = status.max(ended.status);
     }
     status
 }
@@ -129,16 +226,16 @@ fn answer_each<R: Files + Terminals + AllocGlobal + Input + Print + Eprint + Thr
 ///
 /// # Errors
 ///
-/// `NotText` if the list is not UTF-8. `Memory` if memory was refused.
+/// `NotText` if a name in the list is not UTF-8. `Memory` if memory was refused before any input was read.
 pub(crate) fn finish_listing<
     R: Files + Terminals + AllocGlobal + Input + Print + Eprint + Threads + Wait + Sync,
 >(rt: &R, asking: &Asking<'_>, listing: &Listing<'_>) -> Result<u8, WordsFault>
     requires { IsInRange asking.now.job.now }
-    ensures { IfOk result IsStatus }
+    ensures { IfOk result (IsOfListing asking.now listing.now) }
 {
     if let Some(admission) = asking.admission {
         if let Err(error) = runs_admitted(rt.alloc(), admission.system, admission.bytes) {
-            return Ok(fail_enrolling(rt, EnrollError::from(error)));
+            return Ok(fail_admission(rt, error));
         }
     }
     let list = match listing.list {
@@ -148,9 +245,9 @@ pub(crate) fn finish_listing<
         },
         None => Vec::new(rt.alloc()),
     };
-    let Ok(names) = str::from_utf8(&list) else {
+    let Some(sources) = sources_in(rt.alloc(), &listing.files, &list)? else {
         return Err(WordsFault::NotText);
     };
-    let sources = sources_in(rt.alloc(), &listing.files, names)?;
-    Ok(answer_each(rt, asking, &sources))
+    let ends = answer_each(rt, asking, &sources)?;
+    Ok(greatest_status(&ends))
 }

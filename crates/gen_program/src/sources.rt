@@ -1,6 +1,6 @@
 //! Where an input comes from.
-ghost use Rattle.std.specs.Prelude.{option_map};
-ghost use Rattle.gen_program.specs.Sources.{IsSourceOf};
+ghost use Rattle.std.specs.Prelude.{◌≡◌, option_and_then, option_map};
+ghost use Rattle.gen_program.specs.Sources.{name_of, named_by};
 
 /// Where an input comes from.
 #[derive(Clone, Copy, Debug)]
@@ -13,7 +13,7 @@ pub(crate) enum Source<'a> {
 
 /// Returns what a word names: a minus standard input, and any other word a file. Without a word it is standard input.
 pub(crate) fn source_of<'a>(word: Option<&'a str>) -> Source<'a>
-    ensures { IsSourceOf (option_map (λ t. t.now) word.entry) result }
+    ensures { name_of result ≡ option_and_then named_by (option_map (λ t. t.now) word.entry) }
 {
     match word {
         None => Source::Standard,
@@ -23,6 +23,18 @@ pub(crate) fn source_of<'a>(word: Option<&'a str>) -> Source<'a>
             } else {
                 Source::Named(word)
             }
+        }
+    }
+}
+
+impl<'a> Source<'a> {
+    /// Returns the name of the file; None for standard input.
+    pub(crate) fn name(self) -> Option<&'a str>
+        ensures { option_map (λ t. t.now) result ≡ name_of self.entry }
+    {
+        match self {
+            Source::Standard => None,
+            Source::Named(name) => Some(name),
         }
     }
 }

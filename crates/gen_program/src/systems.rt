@@ -1,4 +1,7 @@
 //! The commands of identities and systems: from what their words ask for to the exit status.
+ghost use Rattle.std.specs.Prelude.{◌≡◌};
+ghost use Rattle.gen_enrolling.specs.Resuming.{error_of};
+ghost use Rattle.gen_program.specs.Ends.{enroll_status};
 ghost use Rattle.gen_program.specs.Refusal.{IsStatus};
 
 use crate::details::Detail;
@@ -199,7 +202,8 @@ fn say_id<R: AllocGlobal + Eprint>(rt: &R, id: &[u8; 32]) {
 
 /// Tells why a command has no answer, and returns the exit status.
 pub(crate) fn fail_enrolling<R: Eprint>(rt: &R, error: EnrollError) -> u8
-    ensures { IsStatus result }
+    ensures value { result ≡ enroll_status error }
+    ensures status { IsStatus result }
 {
     match error {
         EnrollError::Memory => fail_with(rt, &Failure::of_fault(JobFault::Memory)),
@@ -208,6 +212,16 @@ pub(crate) fn fail_enrolling<R: Eprint>(rt: &R, error: EnrollError) -> u8
             let _ = eprintln!(rt; "{error}");
             FAULT_STATUS
         }
+    }
+}
+
+/// Tells why bytes are not the admission that is asked for, and returns the exit status.
+pub(crate) fn fail_admission<R: Eprint>(rt: &R, error: ReadError<EnrollFault>) -> u8
+    ensures { result ≡ enroll_status (error_of error) }
+{
+    match error {
+        ReadError::Memory => fail_enrolling(rt, EnrollError::Memory),
+        ReadError::Fault(fault) => fail_enrolling(rt, EnrollError::Fault(fault)),
     }
 }
 

@@ -1,0 +1,4 @@
+pub mod Ended
+pub mod Headings
+pub mod Listed
+pub mod Names
