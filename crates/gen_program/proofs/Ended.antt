@@ -20,17 +20,17 @@ use Rattle.gen_program.specs.declared.reading.Failure.{Failure}
 
 -- a file that was not opened
 pub unopened : (file : List ℕ) (error : Error) (failure : Failure) (e : Ended) → IsFailedOpen file error failure → e.status ≡ status_of (Failed failure.fault) → e.is_last ≡ false → IsEnd e
-unopened file error failure e (inl memory) status last = (Failed faults.Memory, status ∙ ap (λ (f : JobFault). status_of (Failed f)) memory.1, last)
-unopened file error failure e (inr shut) status last = (Failed faults.Open, status ∙ ap (λ (f : JobFault). status_of (Failed f)) shut.0, last)
+unopened file error failure e (inl memory) status last = (Failed faults.Memory, (status ∙ ap (λ (f : JobFault). status_of (Failed f)) memory.1, last))
+unopened file error failure e (inr shut) status last = (Failed faults.Open, (status ∙ ap (λ (f : JobFault). status_of (Failed f)) shut.0, last))
 
 -- an admission that has a fault
 pub unadmitted : (error : ReadError EnrollFault) (e : Ended) → e.status ≡ enroll_status (error_of error) → e.is_last ≡ false → IsEnd e
-unadmitted reads.Memory e status last = (Failed faults.Memory, status, last)
-unadmitted (reads.Fault fault) e status last = (Failed faults.OtherRun, status, last)
+unadmitted reads.Memory e status last = (Failed faults.Memory, (status, last))
+unadmitted (reads.Fault fault) e status last = (Failed faults.OtherRun, (status, last))
 
 -- the status of an end is one of the program
 pub end_status : (e : Ended) → IsEnd e → IsStatus e.status
-end_status e is = inr (is.0, is.1)
+end_status e is = inr (is.0, is.1.0)
 
 -- ---- one more end
 

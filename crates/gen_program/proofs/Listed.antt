@@ -1,8 +1,8 @@
 -- The status of what is asked of several inputs is one of the program.
-use Rattle.std.proofs.Common.{◌≡◌, ◌≤◌, ℕ, Bool, true, false, List, [], ◌∷◌, ◌⊎◌, inl, inr, Option, Some, None, refl, sym, subst, ◌∙◌, arith}
-use Rattle.std.specs.Prelude.{max, nat_le, option_map}
-use Rattle.std.proofs.lemmas.Bool.{leb-false, leb-true}
+use Rattle.std.proofs.Common.{◌≡◌, ◌≤◌, ℕ, List, [], ◌∷◌, length, map, ◌⊎◌, inl, inr, Option, Some, None, Result, Ok, Err, refl, sym, ap, subst, ◌∙◌, arith, leb-true, leb-false}
+use Rattle.std.specs.Prelude.{IfOk, max, nat_le, option_map}
 use Rattle.std.specs.List.{All, fold}
+use Rattle.std.proofs.lemmas.List.{length-map}
 use Rattle.std.proofs.lemmas.List.Elements.{All-head, All-tail}
 use Rattle.gen_types.specs.Members.{bool_cases}
 use Rattle.gen_types.specs.declared.reading.ReadError.{ReadError}
@@ -13,12 +13,15 @@ use Rattle.gen_ends.specs.declared.ends.JobFault.TheVariants as faults
 use Rattle.gen_enrolling.specs.Resuming.{error_of}
 use Rattle.gen_enrolling.specs.declared.enroll_fault.EnrollFault.{EnrollFault}
 use Rattle.gen_words.specs.declared.listing.Listing.{Listing}
+use Rattle.gen_words.specs.declared.words.WordsFault.{WordsFault}
 use Rattle.gen_program.specs.Ends.{IsEnd, enroll_status}
-use Rattle.gen_program.specs.Many.{AreEnds, IsOfListing, IsUnadmitted, IsUnlisted, status_of_all}
+use Rattle.gen_program.specs.Many.{AreEnds, AreSources, CanBeList, IsOfListing, IsUnadmitted, IsUnlisted, inputs_named, status_of_all}
 use Rattle.gen_program.specs.Refusal.{IsStatus}
 use Rattle.gen_program.specs.declared.asking.Admission.{Admission}
 use Rattle.gen_program.specs.declared.asking.Asking.{Asking}
+use Rattle.gen_program.specs.Sources.{name_of}
 use Rattle.gen_program.specs.declared.ends.Ended.{Ended}
+use Rattle.gen_program.specs.declared.sources.Source.{Source}
 use Rattle.gen_program.proofs.Ended.{end_status}
 
 unread_status : (error : ReadError EnrollFault) → IsStatus (enroll_status (error_of error))
@@ -52,3 +55,17 @@ pub listed_status : (asking : Asking) (listing : Listing) (status : ℕ) → IsO
 listed_status asking listing status (inl is) = unadmitted_status asking.admission status is
 listed_status asking listing status (inr (inl is)) = unlisted_status (option_map (λ file. file.now) listing.list) status is
 listed_status asking listing status (inr (inr is)) = subst IsStatus (sym is.4) (all_status (status_of Done) is.2 (inr (Done, refl)) is.3.0)
+
+pub listed : (asking : Asking) (listing : Listing) (r : Result ℕ WordsFault) → IfOk r (IsOfListing asking listing) → IfOk r IsStatus
+listed asking listing (Ok status) is = listed_status asking listing status is
+listed asking listing (Err fault) is = tt
+
+-- ---- the status of all
+
+-- the ends of the sources are those of the inputs that are named
+pub of_all : (asking : Asking) (listing : Listing) (list : List ℕ) (sources : List Source) (ends : List Ended) (status : ℕ) → CanBeList (option_map (λ file. file.now) listing.list) list
+    → AreSources sources (inputs_named (map (λ word. word.now) listing.files.items) list) → AreEnds (length sources) ends → status ≡ status_of_all ends → IsOfListing asking listing status
+of_all asking listing list sources ends status can are ended is =
+    let inputs = inputs_named (map (λ word. word.now) listing.files.items) list in
+    let count : length sources ≡ length inputs = sym (length-map sources name_of) ∙ ap (λ (xs : List (Option (List ℕ))). length xs) are in
+    inr (inr (list, can, ends, subst (λ (n : ℕ). AreEnds n ends) count ended, is))

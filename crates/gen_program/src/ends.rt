@@ -1,6 +1,7 @@
 //! What is told of how a job ended, on standard error and as JSON on standard output, and the exit status of its end.
 ghost use Rattle.std.specs.Prelude.{◌≡◌};
 ghost use Rattle.gen_ends.specs.Ends.{status_of};
+ghost use Rattle.gen_ends.specs.declared.ends.JobEnd.{JobEnd};
 ghost use Rattle.gen_ends.specs.declared.ends.JobEnd.TheVariants.{Failed};
 ghost use Rattle.gen_program.specs.Ends.{IsEnd, IsEndOf, IsOpen, is_unwritten};
 
@@ -126,7 +127,8 @@ pub(crate) fn finish_unopened<R: AllocGlobal + Print + Eprint>(
 
 /// Tells a failure, and returns the exit status.
 pub(crate) fn fail_with<R: Eprint>(rt: &R, failure: &Failure<'_>) -> u8
-    ensures { result ≡ status_of (Failed failure.now.fault) }
+    ensures value { result ≡ status_of (Failed failure.now.fault) }
+    ensures end { (end : JobEnd) × (result ≡ status_of end) }
 {
     end_with(rt, JobEnd::Failed(failure.fault), failure.detail)
 }

@@ -1,13 +1,15 @@
 //! The commands that answer several files, one after another.
-ghost use Rattle.std.specs.Prelude.{◌≡◌, ◌==◌, IfOk, IfSome, Some, false, length, map, option_map};
+ghost use Rattle.std.specs.Prelude.{◌≡◌, ◌==◌, IfErr, IfOk, IfSome, Some, false, length, map, option_map};
 ghost use Rattle.std.specs.List.{slice_split};
 ghost use Rattle.serde_json.specs.Data.{string};
 ghost use Rattle.serde_json.specs.View.{view};
 ghost use Rattle.gen_asked.specs.Ranges.{IsInRange};
+ghost use Rattle.gen_ends.specs.Ends.{status_of};
+ghost use Rattle.gen_ends.specs.declared.ends.JobEnd.TheVariants.{Failed};
 ghost use Rattle.gen_json.specs.Line.{ReadsAs, json_line};
 ghost use Rattle.gen_json.specs.OriginData.{maybe};
 ghost use Rattle.gen_program.specs.Ends.{IsEnd};
-ghost use Rattle.gen_program.specs.Many.{AreEnds, AreSources, IsHeading, IsOfListing, NamesInput, heading_data, inputs_named, names_in, status_of_all};
+ghost use Rattle.gen_program.specs.Many.{AreEnds, AreSources, CanBeList, IsHeading, IsOfListing, IsUnlisted, NamesInput, heading_data, inputs_named, names_in, status_of_all};
 ghost use Rattle.gen_program.specs.Sources.{name_of, named_by};
 
 use crate::answering::finish_source;
@@ -15,7 +17,7 @@ use crate::asking::Asking;
 use crate::details::{FileName, STANDARD_INPUT, has_control};
 use crate::ends::{Ended, end_written, fail_with, is_unwritten};
 use crate::kinds::answers_in_json;
-use crate::reading::read_file;
+use crate::reading::{Failure, read_file};
 use crate::sources::{Source, source_of};
 use crate::systems::fail_admission;
 use crate::terminals::Terminals;
@@ -221,12 +223,28 @@ fn greatest_status(ends: &[Ended]) -> u8
     status
 }
 
+/// Returns the bytes of a list of names, whose file has this name, if there is one; none without a list.
+fn read_list<'a, R: Files + Terminals + AllocGlobal + Input + Eprint>(
+    rt: &R,
+    file: Option<&'a str>,
+) -> Result<Vec<u8>, Failure<'a>>
+    ensures list { IfOk result (λ list. CanBeList (option_map (λ f. f.now) file.entry) list.items) }
+    ensures failure { IfErr result (λ failure. IsUnlisted (option_map (λ f. f.now) file.entry)
+        (status_of (Failed failure.fault))) }
+{
+    match file {
+        Some(file) => read_file(rt, file),
+        None => Ok(Vec::new(rt.alloc())),
+    }
+}
+
 /// Answers the files that words and a list name, and returns the greatest of the exit statuses; that of the admission or of
 /// the list, if it has a fault or is not read.
 ///
 /// # Errors
 ///
 /// `NotText` if a name in the list is not UTF-8. `Memory` if memory was refused before any input was read.
+#[tactic(auto, using(crate::proofs::Listed::of_all))]
 pub(crate) fn finish_listing<
     R: Files + Terminals + AllocGlobal + Input + Print + Eprint + Threads + Wait + Sync,
 >(rt: &R, asking: &Asking<'_>, listing: &Listing<'_>) -> Result<u8, WordsFault>
@@ -238,12 +256,9 @@ pub(crate) fn finish_listing<
             return Ok(fail_admission(rt, error));
         }
     }
-    let list = match listing.list {
-        Some(list) => match read_file(rt, list) {
-            Ok(bytes) => bytes,
-            Err(failure) => return Ok(fail_with(rt, &failure)),
-        },
-        None => Vec::new(rt.alloc()),
+    let list = match read_list(rt, listing.list) {
+        Ok(list) => list,
+        Err(failure) => return Ok(fail_with(rt, &failure)),
     };
     let Some(sources) = sources_in(rt.alloc(), &listing.files, &list)? else {
         return Err(WordsFault::NotText);

@@ -192,6 +192,7 @@ fn finish_several<R: Files + Terminals + AllocGlobal + Input + Print + Eprint>(
 /// # Errors
 ///
 /// `NotText` if a list of names is not UTF-8. `Memory` if memory was refused.
+#[tactic(auto, using(crate::proofs::Ended::end_status, crate::proofs::Listed::listed))]
 fn finish<R: Files + Terminals + AllocGlobal + Input + Print + Eprint + Threads + Wait + Sync>(
     rt: &R,
     request: &Request<'_>,

@@ -4,4 +4,4 @@ use Rattle.gen_ends.specs.declared.ends.JobFault.TheVariants as faults
 use Rattle.gen_program.proofs.systems.fail_enrolling.Goals as goal
 
 pub returns-in-Fault : goal.returns-in-Fault
-returns-in-Fault g c = inr (Failed faults.OtherRun, refl)
+returns-in-Fault g c = record { value = search rules; status = inr (Failed faults.OtherRun, refl) }
