@@ -123,11 +123,11 @@ IsUnlisted (Some file) status = (fault : JobFault) × (status ≡ status_of (Fai
 -- the status is the greatest of the ends of the inputs that words and a list name
 abbrev pub IsOfAll : List (List ℕ) → Option (List ℕ) → ℕ → Type 0
 IsOfAll words file status =
-    (list : List ℕ) × CanBeList file list
-    × (ends : List Ended) × AreEnds (length (inputs_named words list)) ends × (status ≡ status_of_all ends)
+    (list : List ℕ) × CanBeList file list × (ends : List Ended)
+    × AreEnds (length (inputs_named words list)) ends × (status ≡ status_of_all ends)
 
--- The status of what is asked of several inputs: that of the admission, if it has a fault; or that of the list
--- of names, if it is not read; or the greatest of all inputs.
+-- The status of what is asked of several inputs: that of the admission, if it has a fault; or that of the
+-- list of names, if it is not read; or the greatest of all inputs.
 abbrev pub IsOfListing : Asking → Listing → ℕ → Type 0
 IsOfListing asking listing status =
     IsUnadmitted asking.admission status

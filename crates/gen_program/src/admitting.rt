@@ -214,7 +214,7 @@ fn write_told<R: AllocGlobal + Eprint + Threads + Wait + Sync, W: io::Write>(
 
 /// Does a job from a reader, whose file has this name if it has one, to standard output. Its input must be of runs that the
 /// admission admits. Returns how it ended.
-#[tactic(auto, using(crate::proofs::Ended::unadmitted))]
+
 pub(crate) fn finish_admitted<R: AllocGlobal + Print + Eprint + Threads + Wait + Sync, S: Read>(
     rt: &R,
     asking: &Asking<'_>,

@@ -109,7 +109,6 @@ pub(crate) fn finish_seen<R: AllocGlobal + Print + Eprint>(
 }
 
 /// Tells why the file of a job was not opened, and returns how the job ended.
-#[tactic(auto, using(crate::proofs::Ended::unopened))]
 pub(crate) fn finish_unopened<R: AllocGlobal + Print + Eprint>(
     rt: &R,
     job: &Job,

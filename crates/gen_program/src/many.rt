@@ -244,7 +244,6 @@ fn read_list<'a, R: Files + Terminals + AllocGlobal + Input + Eprint>(
 /// # Errors
 ///
 /// `NotText` if a name in the list is not UTF-8. `Memory` if memory was refused before any input was read.
-#[tactic(auto, using(crate::proofs::Listed::of_all))]
 pub(crate) fn finish_listing<
     R: Files + Terminals + AllocGlobal + Input + Print + Eprint + Threads + Wait + Sync,
 >(rt: &R, asking: &Asking<'_>, listing: &Listing<'_>) -> Result<u8, WordsFault>

@@ -208,7 +208,11 @@ pub(crate) fn fail_enrolling<R: Eprint>(rt: &R, error: EnrollError) -> u8
     match error {
         EnrollError::Memory => fail_with(rt, &Failure::of_fault(JobFault::Memory)),
         EnrollError::Write => fail_with(rt, &Failure::of_fault(JobFault::Write)),
-        EnrollError::Fault(_) | EnrollError::OtherRoots => {
+        EnrollError::Fault(fault) => {
+            let _ = eprintln!(rt; "{fault}");
+            FAULT_STATUS
+        }
+        EnrollError::OtherRoots => {
             let _ = eprintln!(rt; "{error}");
             FAULT_STATUS
         }
