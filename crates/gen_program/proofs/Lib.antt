@@ -1,3 +1,4 @@
+pub mod Among
 pub mod Ended
 pub mod Headings
 pub mod Listed

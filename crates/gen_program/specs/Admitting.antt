@@ -1,48 +1,89 @@
--- Jobs whose input must be of runs that an admission admits.
-use Rattle.std.specs.Prelude.{ℕ, Bool, true, false, if◌then◌else◌, List, [], ◌∷◌, Option, Some, None, Result, Ok, Err}
-use Rattle.gen_net.specs.Header.{run_id_of}
-use Rattle.gen_file.specs.Kinds.{file_kind}
-use Rattle.gen_receipt.specs.declared.receipt_fault.ReceiptFault.{ReceiptFault}
-use Rattle.gen_receipt.specs.ReceiptReading.{whole_file}
-use Rattle.gen_receipt.specs.ReceiptSpelling.{ReceiptFile}
-use Rattle.gen_campaign.specs.FileRuns.{runs_as}
-use Rattle.gen_asked.specs.declared.asked_runs.AskedRuns.{AskedRuns}
+-- Jobs whose input must be of runs that an admission admits, and what is told of these runs.
+use Rattle.std.specs.Prelude.{◌≡◌, ℕ, Bool, List, [], Option, Some, None, IfSome, Result, Ok, Err}
+use Rattle.std.specs.Io.KnownBytes.{Keeps}
+use Rattle.gen_asked.specs.declared.forms.Form.{Form}
 use Rattle.gen_asked.specs.declared.jobs.Job.{Job}
-use Rattle.gen_asked.specs.declared.jobs.Job.TheVariants as jobs
-use Rattle.gen_enrolling.specs.Asking.{asked_by}
-use Rattle.gen_enrolling.specs.declared.admitted.AdmittedRun.{AdmittedRun}
+use Rattle.gen_ends.specs.Answering.{Answers}
+use Rattle.gen_ends.specs.declared.ends.JobFault.{JobFault}
+use Rattle.gen_enrolling.specs.Admitted.{AreAdmitted, IsRunsFault}
+use Rattle.gen_enrolling.specs.Among.{AreKept, form_of, ids_of, job_among, told_text}
+use Rattle.gen_enrolling.specs.Telling.{admitted_text}
+use Rattle.gen_enrolling.specs.declared.admitted.AdmittedRuns.{AdmittedRuns}
+use Rattle.gen_enrolling.specs.declared.among.JobAmong.{JobAmong}
+use Rattle.gen_enrolling.specs.declared.enroll_error.EnrollError.TheVariants as errors
+use Rattle.gen_enrolling.specs.declared.enroll_fault.EnrollFault.{EnrollFault}
+use Rattle.gen_jobs.specs.Jobs.{JobAnswers, JobFails}
+use Rattle.gen_program.specs.Ends.{IsEndOf, IsOpen, enroll_status}
+use Rattle.gen_program.specs.declared.admitting.ToldEnd.{ToldEnd}
+use Rattle.gen_program.specs.declared.ends.Ended.{Ended}
 
--- a job that asks for these runs in the place of its own, if it asks for runs
-abbrev pub with_runs : Job → AskedRuns → Job
-with_runs (jobs.Audit w asked strict form) runs = jobs.Audit w (record asked { runs = runs }) strict form
-with_runs (jobs.Draw w asked) runs = jobs.Draw w (record asked { runs = runs })
-with_runs (jobs.Accuse g asked) runs = jobs.Accuse g runs
-with_runs (jobs.AccuseReceipts g asked) runs = jobs.AccuseReceipts g runs
-with_runs (jobs.Evidence asked form) runs = jobs.Evidence runs form
-with_runs (jobs.Receipt g asked) runs = jobs.Receipt g runs
-with_runs (jobs.Receipts asked form) runs = jobs.Receipts runs form
-with_runs (jobs.Show asked form) runs = jobs.Show runs form
-with_runs job runs = job
+-- the lines that are told of runs beside an answer that has no form
+abbrev pub lines_beside : Option Form → AdmittedRuns → List ℕ
+lines_beside None runs = admitted_text runs
+lines_beside (Some form) runs = []
 
--- whether what is told of a job's runs stands beside its answer, which is bytes or a picture
-abbrev pub tells_beside : Job → Bool
-tells_beside (jobs.Draw w asked) = true
-tells_beside (jobs.Accuse g asked) = true
-tells_beside (jobs.AccuseReceipts g asked) = true
-tells_beside (jobs.Receipt g asked) = true
-tells_beside job = false
+-- The admitted runs of an input are told, if it reads: in front of the answer if this has a form, and else in
+-- lines beside it.
+abbrev pub IsToldBeside : Option Form → AdmittedRuns → Option (List (List ℕ)) → List ℕ → List ℕ → List ℕ
+    → Type 0
+IsToldBeside form all None own lines text = (text ≡ own) × (lines ≡ [])
+IsToldBeside form all (Some ids) own lines text =
+    (kept : AdmittedRuns) × AreKept all ids kept × (text ≡ told_text form kept own)
+    × (lines ≡ lines_beside form kept)
 
--- the run of receipts, if they read
-abbrev pub receipts_runs : Result ReceiptFile ReceiptFault → Option (List (List ℕ))
-receipts_runs (Ok read) = Some (run_id_of read.header ∷ [])
-receipts_runs (Err fault) = None
+-- Bytes are an admission of the system that is asked for, if one is. The text is the answer of the job of its
+-- admitted runs to the input, and those of the input are told in front of it, or in these lines.
+pub record AnswersAmong (job : Job) (name : Option (List ℕ)) (admission : List ℕ)
+    (system : Option (List ℕ)) (lines input text : List ℕ) (negative : Bool) : Type 0 where
+  pub all : AdmittedRuns
+  pub are : AreAdmitted system admission all
+  pub own : List ℕ
+  pub answers : JobAnswers (job_among job all input) name input own negative
+  pub told : IsToldBeside (form_of job) all (ids_of job input) own lines text
 
--- the ids of the runs of the input of a job, in their order; none if the input does not read
-abbrev pub input_runs : Job → List ℕ → Option (List (List ℕ))
-input_runs (jobs.AccuseReceipts g asked) input = receipts_runs (whole_file input)
-input_runs (jobs.Receipts asked form) input = receipts_runs (whole_file input)
-input_runs job input = runs_as (file_kind input) input
+-- the fault is one that the job of the admitted runs has at the input
+abbrev pub FailsAmong : Job → List ℕ → Option (List ℕ) → List ℕ → JobFault → Type 0
+FailsAmong job admission system input fault =
+    (all : AdmittedRuns) × AreAdmitted system admission all × JobFails (job_among job all input) input fault
 
--- the job that asks an input for its own runs, if each is admitted, and else for one of which it is not
-abbrev pub job_asked : Job → List AdmittedRun → List ℕ → Job
-job_asked job admitted input = with_runs job (asked_by admitted (input_runs job input))
+-- How the job ended beside the admission, and what was written meanwhile: its answer with what is told of the
+-- runs. Or the admission has a fault, and nothing was written.
+abbrev pub EndsAmong : Job → Option (List ℕ) → List ℕ → Option (List ℕ) → List ℕ
+    → Option (List ℕ) → Option (List ℕ) → Result ToldEnd EnrollFault → Type 0
+EndsAmong job name admission system input old new (Ok told) =
+    Answers (AnswersAmong job name admission system told.lines.items input)
+    (FailsAmong job admission system input) old new told.end
+EndsAmong job name admission system input old new (Err fault) =
+    IsRunsFault system admission fault × Keeps old new
+
+-- The input ended as its job beside the admission; or with the status of the admission's fault.
+abbrev pub IsEndAmong : Result ToldEnd EnrollFault → Ended → Type 0
+IsEndAmong (Ok told) ended = IsEndOf told.end ended
+IsEndAmong (Err fault) ended = (ended.status ≡ enroll_status (errors.Fault fault)) × IsOpen ended
+
+-- An input with these bytes, if they are known, ended so, since its job ended so beside the admission, or the
+-- admission has a fault.
+abbrev pub EndedAmong :
+    Job → Option (List ℕ) → List ℕ → Option (List ℕ) → Option (List ℕ) → Ended → Type 0
+EndedAmong job name admission system input ended =
+    (ends : Result ToldEnd EnrollFault) × IsEndAmong ends ended
+    × (old : Option (List ℕ)) × (new : Option (List ℕ))
+    × IfSome input (λ bytes. EndsAmong job name admission system bytes old new ends)
+
+-- ---- of private functions
+
+-- what is told of these runs stands in front of the answer if it has a form, and else in lines beside it
+abbrev pub TellsBeside : Option Form → Option AdmittedRuns → List ℕ → List ℕ → List ℕ → Type 0
+TellsBeside form None own lines text = (text ≡ own) × (lines ≡ [])
+TellsBeside form (Some runs) own lines text =
+    (text ≡ told_text form runs own) × (lines ≡ lines_beside form runs)
+
+-- the text is the answer of the job that is asked, with what is told of the runs
+abbrev pub AnswersAsked : JobAmong → Option (List ℕ) → List ℕ → List ℕ → List ℕ → Bool → Type 0
+AnswersAsked asked name input lines text negative =
+    (own : List ℕ) × JobAnswers asked.job name input own negative
+    × TellsBeside asked.form asked.runs own lines text
+
+-- the fault is one that the job that is asked has at the input
+abbrev pub FailsAsked : JobAmong → List ℕ → JobFault → Type 0
+FailsAsked asked input fault = JobFails asked.job input fault

@@ -57,7 +57,8 @@ pub(crate) struct WatchedReader<'a, R> {
 impl<'a, R> WatchedReader<'a, R> {
     /// Returns a reader over this one.
     pub(crate) fn new(reader: &'a mut R) -> WatchedReader<'a, R>
-        ensures { result.failure ≡ None }
+        ensures failure { result.failure ≡ None }
+        ensures over { result.reader.now ≡ reader.old }
     {
         WatchedReader {
             reader,
