@@ -692,7 +692,7 @@ pub fn run(file: &NodeFile) -> Result<(), End> {
     let next = nodes::next_of(&runtime, file, &decisions);
     let shared = std::iter::once(&present).chain(&next).map(|node| node.shared.clone());
     let nodes = Arc::new(Nodes::new(shared.collect()));
-    let listeners = nodes.listeners(&runtime)?;
+    let (sockets, listeners): (Vec<_>, Vec<_>) = nodes.listeners(&runtime)?.into_iter().unzip();
     for listener in listeners {
         runtime.spawn(local::serve(nodes.clone(), listener));
     }
@@ -701,7 +701,9 @@ pub fn run(file: &NodeFile) -> Result<(), End> {
     let _ = sd_notify::notify(false, &[NotifyState::Ready]);
     let ended = nodes::go_to_end(&nodes, present, next);
     let _ = sd_notify::notify(false, &[NotifyState::Stopping]);
-    nodes.remove_sockets();
+    for socket in sockets {
+        let _ = std::fs::remove_file(socket);
+    }
     tracing::info!("ended");
     ended
 }

@@ -2,7 +2,7 @@
 //! and hear the decisions of both.
 
 use std::collections::BTreeSet;
-use std::path::Path;
+use std::path::{Path, PathBuf};
 use std::sync::Arc;
 use std::thread::{self, JoinHandle};
 
@@ -22,6 +22,21 @@ pub struct Nodes(Vec<Arc<Shared>>);
 /// The place of the last of some moments that has come, or 0.
 fn place_at(moments: impl Iterator<Item = i64>, now_ms: i64) -> usize {
     moments.take_while(|&moment| moment <= now_ms).count().saturating_sub(1)
+}
+
+/// The path of a file that may not be there, by the true path of its folder.
+fn true_path(path: &Path) -> PathBuf {
+    let folder = path.parent().filter(|folder| !folder.as_os_str().is_empty());
+    match (folder.unwrap_or(Path::new(".")).canonicalize(), path.file_name()) {
+        (Ok(folder), Some(name)) => folder.join(name),
+        _ => path.to_owned(),
+    }
+}
+
+/// Each file once, by the first of its paths.
+fn each_once<'a>(paths: impl Iterator<Item = &'a Path>) -> Vec<&'a Path> {
+    let mut seen = BTreeSet::new();
+    paths.filter(|path| seen.insert(true_path(path))).collect()
 }
 
 impl Nodes {
@@ -50,21 +65,19 @@ impl Nodes {
         self.0.iter().for_each(|node| node.drain());
     }
 
-    /// The files of the local sockets. Each serves all nodes.
-    fn sockets(&self) -> BTreeSet<&Path> {
-        self.0.iter().map(|node| &*node.file.local.socket).collect()
-    }
-
-    /// Listens at the local sockets.
-    pub fn listeners(&self, runtime: &Runtime) -> Result<Vec<UnixListener>, End> {
+    /// Listens at the local sockets, of which each serves all nodes, and tells their files. The socket of a next system that
+    /// can't be served is an alarm.
+    pub fn listeners(&self, runtime: &Runtime) -> Result<Vec<(&Path, UnixListener)>, End> {
         let _inside = runtime.enter();
-        self.sockets().into_iter().map(local::listen).collect()
-    }
-
-    pub fn remove_sockets(&self) {
-        for socket in self.sockets() {
-            let _ = std::fs::remove_file(socket);
+        let mut listeners = Vec::new();
+        for socket in each_once(self.0.iter().map(|node| &*node.file.local.socket)) {
+            match local::listen(socket) {
+                Ok(listener) => listeners.push((socket, listener)),
+                Err(told) if listeners.is_empty() => return Err(told),
+                Err(told) => tracing::error!(alarm = "next", %told, "the socket of the next system is not served"),
+            }
         }
+        Ok(listeners)
     }
 }
 
@@ -130,5 +143,15 @@ mod tests {
     fn the_last_system_that_has_begun_is_asked() {
         let at = |now_ms| place_at([100, 200].into_iter(), now_ms);
         assert_eq!([at(0), at(100), at(199), at(200), at(900)], [0, 0, 0, 1, 1]);
+    }
+    #[test]
+    fn a_file_with_two_paths_is_one_file() {
+        let made = std::env::temp_dir().join(format!("vamuretu.{}.sockets", std::process::id()));
+        std::fs::create_dir_all(made.join("next")).unwrap();
+        let paths =
+            [made.join("socket"), made.join("next/../socket"), made.join("next/socket"), made.join("none/socket")];
+        let found = each_once(paths.iter().map(|path| &**path));
+        assert_eq!(found, [&paths[0], &paths[2], &paths[3]]);
+        std::fs::remove_dir_all(made).unwrap();
     }
 }

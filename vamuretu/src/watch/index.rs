@@ -240,6 +240,10 @@ fn prepare(database: &mut Connection, system: &str, nodes: u32) -> Asked<i32> {
 
 /// Opens a database for reading.
 pub fn connect_to_read(path: &Path) -> io::Result<Connection> {
+    if path.is_dir() {
+        let told = "a folder, and no index: that of a watcher is the file `database` of its configuration";
+        return Err(io::Error::new(io::ErrorKind::InvalidInput, told));
+    }
     let flags = OpenFlags::SQLITE_OPEN_READ_ONLY | OpenFlags::SQLITE_OPEN_NO_MUTEX;
     Connection::open_with_flags(path, flags).map_err(failed)
 }
