@@ -676,11 +676,10 @@ mod tests {
 
     /// The bounds of keys as docs/REFERENCE.md has them. Behind each stands a key of the example with such bounds, and values that
     /// it may have and may not have. Other tests here try the bounds that stand without a key.
-    const BOUNDS: [(&str, &str, &[&str], &[&str]); 15] = [
+    const BOUNDS: [(&str, &str, &[&str], &[&str]); 14] = [
         ("2 to 16 files, one for each node", "roots", &[ROOTS], &["[\"0\"]", MANY_ROOTS]),
         ("below the number of `roots`", "number", &["3"], &["4", "-1"]),
         ("below the number of `roots`, each once", "", &[], &[]),
-        ("1 or 2 with `[key]`, each once in the file, and else none", "", &[], &[]),
         ("1 to 64 with `[key]`, each once in the file, and else none", "", &[], &[]),
         ("1 to 64 without `[key]`, each once, and else none", "", &[], &[]),
         (
@@ -707,8 +706,9 @@ mod tests {
         let page = include_str!("../../docs/REFERENCE.md");
         let section = page.split("\n## ").find(|it| it.starts_with("The configuration\n")).expect("the section");
         let rows = section.lines().filter(|line| line.starts_with("| ") && line.contains('`'));
-        let told: BTreeSet<&str> = rows.map(|row| row.split(" | ").nth(3).expect("a column").trim()).collect();
-        assert_eq!(told, BOUNDS.iter().map(|it| it.0).chain([""]).collect());
+        let values = rows.map(|row| row.split(" | ").nth(1).expect("a column"));
+        let told: BTreeSet<&str> = values.filter_map(|value| Some(value.split_once(": ")?.1)).collect();
+        assert_eq!(told, BOUNDS.iter().map(|it| it.0).collect());
         let text = four().replace("bound_ms = 20", "bound_ms = 0");
         for (bounds, key, may, may_not) in BOUNDS.iter().filter(|it| !it.1.is_empty()) {
             let front = format!("\n{key} = ");

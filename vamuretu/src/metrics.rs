@@ -71,29 +71,29 @@ pub async fn answer<S: AsyncRead + AsyncWrite + Unpin>(mut stream: S, registry: 
 
 #[cfg(test)]
 pub mod tests {
+    use std::collections::BTreeSet;
+
     use prometheus::proto::MetricFamily;
     use tokio::net::TcpStream;
 
     use super::*;
 
-    /// Compares what a registry tells with the rows of docs/REFERENCE.md behind a heading: name, type, label and help of each
-    /// metric. The page has that of this module, too.
+    /// Compares what a registry tells with the list of docs/REFERENCE.md behind a heading: the name and the label of each
+    /// metric. The page has that of this module, too. tools/tables.py makes the list.
     pub fn on_the_page(heading: &str, registry: &Registry) {
         let page = include_str!("../../docs/REFERENCE.md").split_once(heading).expect("a heading").1;
         let page = page.split("\n#").next().expect("a section");
-        let mut told: Vec<String> = registry.gather().iter().map(row_of).collect();
-        told.sort_unstable();
-        let mut rows: Vec<&str> = page.lines().filter(|line| line.starts_with("| `vamuretu_")).collect();
-        rows.retain(|row| !row.starts_with("| `vamuretu_metrics_refused_total`"));
-        rows.sort_unstable();
-        assert_eq!(told, rows);
+        let told: BTreeSet<String> = registry.gather().iter().map(name_of).collect();
+        let items = page.lines().filter(|line| line.starts_with("- `vamuretu_"));
+        let names = items.flat_map(|line| line.split('`')).filter(|it| it.starts_with("vamuretu_"));
+        let own = "vamuretu_metrics_refused_total";
+        assert_eq!(told, names.filter(|it| *it != own).map(str::to_owned).collect());
     }
 
-    /// The row of a metric.
-    fn row_of(family: &MetricFamily) -> String {
-        let kind = format!("{:?}", family.get_field_type()).to_lowercase();
+    /// The name of a metric, with its label.
+    fn name_of(family: &MetricFamily) -> String {
         let label = family.get_metric()[0].get_label().first().map(|it| format!("{{{}}}", it.get_name()));
-        format!("| `{}{}` | {kind} | {} |", family.get_name(), label.unwrap_or_default(), family.get_help())
+        format!("{}{}", family.get_name(), label.unwrap_or_default())
     }
 
     #[test]

@@ -144,6 +144,7 @@ mod tests {
         let at = |now_ms| place_at([100, 200].into_iter(), now_ms);
         assert_eq!([at(0), at(100), at(199), at(200), at(900)], [0, 0, 0, 1, 1]);
     }
+
     #[test]
     fn a_file_with_two_paths_is_one_file() {
         let made = std::env::temp_dir().join(format!("vamuretu.{}.sockets", std::process::id()));
