@@ -232,8 +232,8 @@ def file_cases(program, folder):
 
 
 def ends_of_files(program, words):
-    """How a command on many files may end where memory or a thread is refused: of each file as alone, or with the fault; or without
-    more once what names a file could not be written."""
+    """How a command on many files may end where memory or a thread is refused: of each file as alone, or with the fault, which names
+    no file where there was no memory for what names it; or without more, where there was none for the files as a whole."""
     names = [word for word in words if "/" in word]
     if "--files-from" in words:
         names[1:] = [os.path.join(os.path.dirname(names[0]), "third")]
@@ -248,6 +248,7 @@ def ends_of_files(program, words):
         for before in going:
             more += [End(max(before.status, it.status), before.wrote + b"file %s\n" % name.encode() + it.wrote, before.said + it.said)
                      for it in ends]
+            more += [End(4, before.wrote, before.said + b"memory\n")]
             ended += [End(4, before.wrote, before.said + b"memory\n")]
         going = more
     return going + ended
