@@ -5,8 +5,8 @@
 
 FOLDER gets share/bash-completion/completions/sm_tool, share/zsh/site-functions/_sm_tool and
 share/fish/vendor_completions.d/sm_tool.fish. The commands and their options are those of docs/COMMANDS.md. What is said of
-each is the program's own line of help, which tells the values of an option too. Files are completed behind a command, and
-behind `explain` the names of docs/WORDS.md that are one word.
+each is the program's own line of help, which tells the values of an option too. Behind a command files are completed, and its
+options where a word begins with a dash; behind `explain` the names of docs/WORDS.md that are one word.
 """
 import os
 import re
@@ -93,20 +93,21 @@ def plain(text):
 def bash(of_commands, options):
     values = {name: spelled(values) for name, (_, values) in options.items() if values is not None and " " not in name}
     cases = [f"    {name}) COMPREPLY=($(compgen -W '{some}' -- \"$word\")); return ;;" for name, some in values.items()]
-    behind = {"explain": names_of_words()}
-    words = [f"    *:{name}) list='{' '.join([*behind.get(name, []), *names, '--help'])}' ;;" for name, (_, names) in of_commands.items()]
+    lists = {"explain": f"list='{' '.join(names_of_words())}' "}
+    words = [f"    *:{name}) {lists.get(name, '')}options='{' '.join([*names, '--help'])}' ;;" for name, (_, names) in of_commands.items()]
     return "\n".join([
         "# What bash completes of sm_tool. Made by tools/completions.py.",
         "_sm_tool() {",
-        "    local word=${COMP_WORDS[COMP_CWORD]} list=",
+        "    local word=${COMP_WORDS[COMP_CWORD]} list= options=",
         "    case ${COMP_WORDS[COMP_CWORD - 1]} in",
         *cases,
         "    esac",
         "    case $COMP_CWORD:${COMP_WORDS[1]} in",
-        f"    1:*) list='{' '.join([*of_commands, *OTHERS, *GLOBAL])}' ;;",
+        f"    1:*) list='{' '.join([*of_commands, *OTHERS])}' options='{' '.join(GLOBAL)}' ;;",
         f"    2:help) list='{' '.join(of_commands)}' ;;",
         *words,
         "    esac",
+        "    [[ $word == -* ]] && list=$options",
         "    COMPREPLY=($(compgen -W \"$list\" -- \"$word\"))",
         "}",
         "complete -o bashdefault -o default -F _sm_tool sm_tool",

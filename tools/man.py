@@ -4,8 +4,8 @@
     tools/man.py            writes it
     tools/man.py --check    only says whether it is the one that the document makes; else the status is 1
 
-The document is Markdown of a few forms: headings, paragraphs, tables, and lines that are indented by four spaces. The
-version is that of tools/version.py.
+The document is Markdown of a few forms: headings, paragraphs, lists, tables, and lines that are indented by four spaces. The
+version is that of tools/version.py. The last sentence says where an installed system has the other documents.
 """
 import os
 import re
@@ -15,6 +15,7 @@ from version import TOP, read, version
 
 DOCUMENT = os.path.join(TOP, "docs", "COMMANDS.md")
 PAGE = os.path.join(TOP, "man", "sm_tool.1")
+WHERE = "The documents stand in the folder share/doc/vamuretu/docs, below the one into which the program is installed, as /usr."
 
 
 def plain(text):
@@ -23,8 +24,8 @@ def plain(text):
 
 
 def inline(text):
-    """A piece of running text: documents are named from the top, other links lose their targets, and code is set bold."""
-    text = re.sub(r"\[([A-Z]+\.md)\]\([^)]*\)", r"docs/\1", text)
+    """A piece of running text: a link to a document names its file too, other links lose their targets, and code is set bold."""
+    text = re.sub(r"\[([A-Z]+\.md)\]\([^)]*\)", r"\1", text)
     text = re.sub(r"\[([^\]]*)\]\([^)]*\)", r"\1", text)
     pieces = re.split(r"`([^`]*)`", text)
     return "".join(f"\\fB{plain(piece)}\\fR" if at % 2 else plain(piece) for at, piece in enumerate(pieces))
@@ -62,6 +63,11 @@ def shown(block):
     return [".PP", ".nf", ".RS 4", *lines, ".RE", ".fi"]
 
 
+def listed(block):
+    """A paragraph with a dot before it for each line of a list."""
+    return [line for item in block.split("\n") for line in (".IP \\(bu 2", safe(inline(item[2:])))]
+
+
 def option(block):
     """A paragraph that says what an option is: its forms, a colon, and the rest."""
     forms, said = re.fullmatch(r"(`-[^:]*): (.*)", block, re.DOTALL).groups()
@@ -80,11 +86,13 @@ def page_of(document):
             lines += table(block.split("\n"))
         elif block.startswith("    "):
             lines += shown(block)
+        elif block.startswith("- "):
+            lines += listed(block)
         elif block.startswith("`-"):
             lines += option(block)
         else:
             lines += [".PP", safe(inline(block))]
-    return "\n".join(lines) + "\n"
+    return "\n".join([*lines, ".PP", plain(WHERE)]) + "\n"
 
 
 def main():

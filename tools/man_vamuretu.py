@@ -118,14 +118,15 @@ def branches(command):
 
 
 def completions(program):
-    """What bash, zsh and fish complete, by the paths: commands, and behind these options and files."""
+    """What bash, zsh and fish complete, by the paths: commands, and behind these files, and options where a word begins with a dash."""
     whole, told = command_of(program), "Made by tools/man_vamuretu.py."
     name = lambda it: " ".join(it.words)
     cases = [f"    '{name(it)}') list='{' '.join(below.words[-1] for below in it.commands)}' ;;" for it in branches(whole)]
-    cases[0] = cases[0].replace("' ;;", " --help --version' ;;")
-    cases += [f"    '{name(it)}'*) list='{' '.join([*options_of(it), '--help'])}' ;;" for it in leaves(whole)]
-    bash = ["_vamuretu() {", "    local word=${COMP_WORDS[COMP_CWORD]} list="]
-    bash += ['    case "${COMP_WORDS[*]:1:COMP_CWORD-1}" in', *cases, "    esac", '    COMPREPLY=($(compgen -W "$list" -- "$word"))', "}"]
+    cases[0] = cases[0].replace("' ;;", "' options='--help --version' ;;")
+    cases += [f"    '{name(it)}'*) options='{' '.join([*options_of(it), '--help'])}' ;;" for it in leaves(whole)]
+    bash = ["_vamuretu() {", "    local word=${COMP_WORDS[COMP_CWORD]} list= options="]
+    bash += ['    case "${COMP_WORDS[*]:1:COMP_CWORD-1}" in', *cases, "    esac"]
+    bash += ["    [[ $word == -* ]] && list=$options", '    COMPREPLY=($(compgen -W "$list" -- "$word"))', "}"]
     bash += ["complete -o bashdefault -o default -F _vamuretu vamuretu"]
     zsh = ["local -a commands=(", *(f"    '{name(it)}:{words_of(it.does)}'" for it in whole.commands), ")"]
     zsh += ["if ((CURRENT == 2)); then", "    _describe command commands", "else", "    _files", "fi"]
