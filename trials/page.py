@@ -66,8 +66,8 @@ LACKING = {
     "memory": ("const whole = WebAssembly.instantiate.bind(WebAssembly); WebAssembly.instantiate = async (...given) =>"
                "({ exports: { ...(await whole(...given)).exports, room: () => 0n } });",
                "Not judged: memory was refused."),
-    "workers": ("window.Worker = undefined;", "Yes, agreed: all generals that aren't held for faulty decided order 0. "
-                "Held for faulty: general 0."),
+    "workers": ("window.Worker = undefined;", "Convicted: general 0 by K2. Yes, agreed: all generals that are not assumed faulty "
+                "decided order 0. Assumed faulty: general 0."),
 }
 # Has the module answer evidence by two strings with one hash.
 COLLISION = """const whole = WebAssembly.instantiate.bind(WebAssembly);
@@ -334,14 +334,20 @@ class Given:
         return dict(zip(files, told))
 
 
+# Where the list of those who are assumed faulty ends in a bundle of two generals with one edge.
+LIST_OF_TWO = 78
+
+
 def named_files(program):
-    """The bundles, the campaign and the evidence of the examples; some of them bent and cut; one that is explained and the
-    evidence that it holds; receipts of which one order is shown, none, or two; what is none of these.
+    """The bundles, the campaign and the evidence of the examples; some of them bent and cut; two that are explained, and the
+    evidence that one of them holds; one in which too few speak for the correct generals; receipts of which one order is shown, none, or two; what is none of these.
     """
     kept = [it for it in sorted(os.listdir(EXAMPLES)) if it.endswith((".bundle", ".bundles", ".evidence"))]
     bundle, evidence = read(EXAMPLES, "split.bundle"), read(EXAMPLES, "split.evidence")
     turned = lambda data, at: data[:at] + bytes([data[at] ^ 1]) + data[at + 1 :]
     explained = run(program, ["run"], read(EXAMPLES, "one_too_many.scenario")).wrote
+    few = run(program, ["run"], read(EXAMPLES, "split.scenario").replace(b"traitors 1", b"traitors 2")).wrote
+    one_root = read(ROWS, "one_root.bundle")
     accused = lambda general: run(program, ["accuse", "--general", str(general)], explained).wrote
     receipts = [run(program, ["receipt", "--general", str(general)], bundle).wrote for general in range(3)]
     # The generals ran twice under one header.
@@ -352,8 +358,11 @@ def named_files(program):
         "cut.bundle": bundle[:1000],
         "header.bundle": turned(bundle, 8),
         "parted.bundle": read(ROWS, "cut.bundle"),
-        "one_root.bundle": read(ROWS, "one_root.bundle"),
+        "one_root.bundle": one_root,
+        # The same logs, with general 0 assumed faulty, and nobody planned to be.
+        "one_left.bundle": turned(one_root, LIST_OF_TWO),
         "explained.bundle": explained,
+        "few.bundle": few,
         **{f"explained.{general}.evidence": accused(general) for general in (0, 1)},
         "bent.evidence": turned(evidence, len(evidence) - 1),
         "cut.evidence": evidence[:-1],
@@ -385,8 +394,10 @@ def try_saved(shown, folder, tally, links):
 def try_answers(told, tally):
     """That the sentences, the evidence and the pictures are there that the answers want."""
     said = {name: it["said"] for name, it in told.items()}
-    starts = {"split.bundle": "Yes, agreed:", "bent.bundle": "No:", "cut.bundle": "Not judged"}
-    starts |= {"series.bundles": "Yes, agreed:", "explained.bundle": "Explained, but not agreed:"}
+    starts = {"split.bundle": "Convicted: general 0 by K2. Yes, agreed:", "bent.bundle": "No:", "cut.bundle": "Not judged"}
+    starts |= {"series.bundles": "Convicted in run 1: general 0 by K2. Convicted in run 3: general 0 by K2. Yes, agreed:"}
+    starts |= {"one_left.bundle": "Explained, but not agreed:", "explained.bundle": "Convicted: general 0 by K3, general 1 by K4. Explained,"}
+    starts["few.bundle"] = "Convicted: general 0 by K2. Agreed on order 0 by too few: 2 generals are not assumed faulty, and 3 are needed"
     starts |= {"README.md": "Neither", "empty": "Neither", "split.evidence": "The evidence against general 0 holds"}
     starts |= {"three.receipts": "Shown: more than m", "one.receipts": "Not shown: no more than m", "cut.receipts": "Not judged"}
     starts["both.receipts"] = "Not shown: of each of the orders 0, 1 more"
@@ -398,14 +409,14 @@ def try_answers(told, tally):
         tally.hold(f"meanings of {name}", None if it["meanings"] == wants else f"{it['meanings']}")
         has_run = it["end"] < 2 and not name.endswith((".evidence", ".receipts"))
         tally.hold(f"picture of {name}", None if it["drawn"] == has_run else f"{it['drawn']}")
-    looks = {it["look"] for it in (told["split.bundle"], told["explained.bundle"], told["disputed.bundle"])}
-    tally.hold("looks", None if len(looks) == 3 else f"{looks}")
+    looks = [told[f"{name}.bundle"]["look"] for name in ("one_root", "one_left", "disputed", "split")]
+    tally.hold("looks", None if len(set(looks)) == 3 and looks[2] == looks[3] else f"{looks}")
 
 
 # The table of the generals of examples/split.bundle, and the sides of evidence of each kind that is given.
-SPLIT = [["0", "18fbddbba9d556d0…", "yes", "49,601 bytes", "1", "K2"], ["1", "e64d015fd1352f12…", "no", "82,629 bytes", "0", "no"],
-         ["2", "985170cbf04d3a61…", "no", "82,629 bytes", "0", "no"]]
-UNJUDGED = [[*row[:-1], "not judged"] for row in SPLIT]
+SPLIT = [["0", "K2", "1", "yes", "49,601 bytes", "18fbddbba9d556d0…"], ["1", "no", "0", "no", "82,629 bytes", "e64d015fd1352f12…"],
+         ["2", "no", "0", "no", "82,629 bytes", "985170cbf04d3a61…"]]
+UNJUDGED = [[row[0], "not judged", *row[2:]] for row in SPLIT]
 SIDES = {
     "split.evidence": [["Signed first in the file", "statement round 1 order 0 path 0", "in this run"],
                        ["Signed besides", "statement round 1 order 1 path 0", "in this run"]],

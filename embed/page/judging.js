@@ -201,7 +201,7 @@ async function judged(module, given, runs) {
   return described(of, input, { kind, ...answerOn(of, kind, input, runs) });
 }
 
-// The bundle that shows a log alone, as that of the accused in the run of evidence: all others are held for faulty.
+// The bundle that shows a log alone, as that of the accused in the run of evidence: all others are assumed faulty.
 function bundleAround(evidence, log) {
   const version = evidence[MARK_BYTES], count = evidence[MARK_BYTES + version], edges = evidence[MARK_BYTES + 5 + version];
   const front = MARK_BYTES + 6 + version + 2 * edges + ROOT_BYTES * count, accused = evidence[front];

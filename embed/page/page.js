@@ -10,9 +10,9 @@ const LACKING = "This browser has no 64-bit memories for WebAssembly, so this pa
   + "Take a newer browser, or the program sm_tool.";
 const NO_RUN_ID = "The expected run id is not 64 hexadecimal digits, nor two to four of these with commas between them. "
   + "No file was judged.";
-// The names of the answers in the page's style: agreed, explained, a no, and all else.
+// The names of the answers in the page's style: agreed, explained or agreed by too few, a no, and all else.
 const LOOKS = {
-  agreed: "yes", holds: "yes", answered: "yes", shown: "yes", explained: "part",
+  agreed: "yes", holds: "yes", answered: "yes", shown: "yes", explained: "part", "too few": "part",
   no: "no", fails: "no", unanswered: "no", "not shown": "no",
 };
 // Why a log answers nothing, by what is found against the log.
@@ -42,14 +42,33 @@ function generalsIn(numbers) {
 }
 
 // What an answer comes to, a name of LOOKS; nothing where nothing was judged.
-function outcomeOf({ kind, end, verdicts }) {
+function outcomeOf({ kind, end, verdicts, file }) {
   if (end > NO) return "";
   if (kind === "reply") return end === YES ? "answered" : "unanswered";
   if (kind === "evidence") return end === YES ? "holds" : "fails";
   if (kind === "receipts") return end === YES ? "shown" : "not shown";
   if (end === NO) return "no";
-  return verdicts.every(it => it.verdict === "agreed") ? "agreed" : "explained";
+  const outcomes = verdicts.map((it, place) => outcomeOfRun(file.runs[place], it));
+  return ["explained", "too few"].find(it => outcomes.includes(it)) ?? "agreed";
 }
+
+// What the verdict on a run comes to.
+const outcomeOfRun = (run, { verdict }) => (verdict === "agreed" && speaksForFew(run) ? "too few" : verdict);
+
+// How many generals of a run are not assumed faulty, and how many of them it takes to speak for all correct ones: more than m.
+const speakersOf = run => ({ count: run.generals - run.faulty.length, needed: run.traitors + 1 });
+
+// Whether so few generals of a run are not assumed faulty that each of them can be faulty.
+function speaksForFew(run) {
+  const { count, needed } = speakersOf(run);
+  return count < needed;
+}
+
+// Whether signatures of a run, or of two, convict somebody.
+const convicts = verdict => Object.keys(verdict.convicted).length > 0;
+
+// The name of an answer in the page's style. Whoever is convicted is not overseen in an answer that is a yes.
+const lookOf = (outcome, { verdicts }) => (verdicts.some(convicts) ? "no" : LOOKS[outcome] ?? "none");
 
 // The sentence for a file that nothing was judged of.
 function unjudged({ kind, end, text }) {
@@ -62,24 +81,42 @@ function unjudged({ kind, end, text }) {
   return `Not judged: the ${kind} ${has} a fault.`;
 }
 
+// Who is convicted by what in a run, as a sentence; nothing if nobody is.
+function convictedIn({ convicted }, where = "") {
+  const said = Object.entries(convicted).map(([general, how]) => `general ${general} by ${how.join(" and ")}`);
+  return said.length ? `Convicted${where}: ${said.join(", ")}. ` : "";
+}
+
+// The sentence for a run of which too few generals are not assumed faulty.
+function fewIn(run) {
+  const { count, needed } = speakersOf(run);
+  return `${several(count, "general is", "generals are")} not assumed faulty, and ${needed} are needed to speak for all `
+    + "correct generals";
+}
+
 // The sentence for a bundle.
 function bundleHeadline(outcome, { verdicts, file }) {
-  const [{ faulty }] = file.runs, [{ order, findings }] = verdicts;
-  const held = `Held for faulty: ${faulty.length ? generalsIn(faulty) : "none"}.`;
-  if (outcome === "no") return `No: ${several(findings, "finding stands", "findings stand")} against it. ${held}`;
-  if (outcome === "agreed") return `Yes, agreed: all generals that aren't held for faulty decided order ${order}. ${held}`;
-  return "Explained, but not agreed: more generals are held for faulty than the run is planned for, so the others may have "
-    + `decided different orders. ${held}`;
+  const [run] = file.runs, [verdict] = verdicts, { order, findings } = verdict;
+  const front = convictedIn(verdict), held = `Assumed faulty: ${run.faulty.length ? generalsIn(run.faulty) : "none"}.`;
+  if (outcome === "no") return `${front}No: ${several(findings, "finding stands", "findings stand")} against it. ${held}`;
+  if (outcome === "agreed") {
+    return `${front}Yes, agreed: all generals that are not assumed faulty decided order ${order}. ${held}`;
+  }
+  if (outcome === "too few") return `${front}Agreed on order ${order} by too few: ${fewIn(run)}. ${held}`;
+  return `${front}Explained, but not agreed: more generals are assumed faulty than the run is planned for, so the others `
+    + `may have decided different orders. ${held}`;
 }
 
 // The sentence for a campaign.
-function campaignHeadline(outcome, { verdicts }) {
+function campaignHeadline(outcome, { verdicts, file }) {
   const places = verdict => verdicts.filter(it => it.verdict === verdict).length;
-  const runs = several(verdicts.length, "run", "runs");
-  if (outcome === "no") return `No: findings stand against ${places("no")} of ${runs}.`;
-  if (outcome === "agreed") return `Yes, agreed: nothing stands against any of ${runs}.`;
-  return `Explained, but not agreed: in ${places("explained")} of ${runs} more generals are held for faulty than the run `
-    + "is planned for, so the others may have decided different orders.";
+  const runs = several(verdicts.length, "run", "runs"), few = file.runs.findIndex(speaksForFew);
+  const front = verdicts.map((it, place) => convictedIn(it, ` in run ${place}`)).join("");
+  if (outcome === "no") return `${front}No: findings stand against ${places("no")} of ${runs}.`;
+  if (outcome === "agreed") return `${front}Yes, agreed: no finding stands against any of ${runs}.`;
+  if (outcome === "too few") return `${front}Agreed by too few: in run ${few} ${fewIn(file.runs[few])}.`;
+  return `${front}Explained, but not agreed: in ${places("explained")} of ${runs} more generals are assumed faulty than the `
+    + "run is planned for, so the others may have decided different orders.";
 }
 
 // Why a log answers nothing.
@@ -195,11 +232,11 @@ const convictedBy = (verdict, general) => (verdict ? verdict.convicted[general]?
 function generalsTable(run, verdict, label) {
   const rows = run.roots.map((root, general) => {
     const logs = run.logs.filter(it => it.general === general);
-    return [String(general), `${root.slice(0, 2 * KEY_BYTES)}…`, run.faulty.includes(general) ? "yes" : "no",
-      logs.length ? logs.map(it => it.fault ?? `${spell(it.length)} bytes`).join(", ") : "none", decidedIn(logs),
-      convictedBy(verdict, general)];
+    return [String(general), convictedBy(verdict, general), decidedIn(logs), run.faulty.includes(general) ? "yes" : "no",
+      logs.length ? logs.map(it => it.fault ?? `${spell(it.length)} bytes`).join(", ") : "none",
+      `${root.slice(0, 2 * KEY_BYTES)}…`];
   });
-  const names = ["General", "Root begins", "Held for faulty", "Log shown", "Decided", "Convicted by"];
+  const names = ["General", "Convicted by", "Decided", "Assumed faulty", "Log shown", "Root begins"];
   return tableOf(label, names, rows);
 }
 
@@ -209,7 +246,7 @@ const equalRootsIn = run => run.equalRoots.map(pair => made("p", "warning",
 
 // The pair of generals of a run that no walk joins, if there is one.
 const partedIn = (run, pair) => (pair ? [made("p", "warning", `No walk: ${generalsIn(pair)} are not joined by ${
-  several(run.diameter, "edge", "edges")} or fewer through generals that are not held for faulty. So there is no yes with `
+  several(run.diameter, "edge", "edges")} or fewer through generals that are not assumed faulty. So there is no yes with `
   + "this list.")] : []);
 
 // The runs of a file, each with its numbers and its generals.
@@ -217,10 +254,11 @@ function runsIn({ kind, file, verdicts, parted = [] }) {
   const alone = file.runs.length === 1;
   return file.runs.filter(it => it.id).flatMap((run, place) => {
     const name = alone ? "The run" : isAboutEvidence(kind) ? `Run of the ${place ? "second" : "first"} text` : `Run ${place}`;
-    const said = verdicts[place] ? `${name}: ${verdicts[place].verdict}` : name;
+    const verdict = verdicts[place], look = verdict ? lookOf(outcomeOfRun(run, verdict), { verdicts: [verdict] }) : "";
+    const said = verdict ? `${name}: ${verdict.verdict}` : name;
     const label = alone ? "The generals" : `The generals of run ${place}`;
     const table = run.faulty ? [generalsTable(run, verdicts[place], label)] : [];
-    return [made("h3", "", said), ...equalRootsIn(run), ...partedIn(run, parted[place]), runFacts(run), ...table];
+    return [made("h3", look, said), ...equalRootsIn(run), ...partedIn(run, parted[place]), ...table, runFacts(run)];
   });
 }
 
@@ -239,7 +277,8 @@ function sidesOf({ texts, runs, departs, kind }) {
   }
   const sealed = `A log of ${several(log.entries.length, "entry", "entries")}, which the accused sealed.`;
   if (texts.length) return [sideOf("Signed", texts[0].said), sideOf("Lacks it", sealed, "It has no such SIGN.")];
-  return [sideOf("Sealed", sealed), sideOf("Departs here", log.entries[departs] ?? `entry ${departs}`)];
+  const due = "An entry that the algorithm asks for is missing before it, or stands in no such form here.";
+  return [sideOf("Sealed", sealed), sideOf("Departs from here on", log.entries[departs] ?? `entry ${departs}`, due)];
 }
 
 // Who is accused by evidence, by what, with both sides.
@@ -325,9 +364,9 @@ const textIn = (text, name) => [made("h3", "", "The text"), framed("frame", `Tex
 // What stands of an answer below its sentence.
 function partsOf(given, answer, described) {
   const name = titleOf(given);
-  return [fileFacts(given, answer), ...collisionIn(answer), ...worthOf(answer), ...accusedIn(answer),
-    ...replyPlace(given, answer, described), ...runsIn(answer), ...explained(answer.words), ...offered(answer.evidence, name),
-    ...pictured(answer.picture, name), ...textIn(answer.text, name)];
+  return [...collisionIn(answer), ...worthOf(answer), ...accusedIn(answer), ...replyPlace(given, answer, described),
+    ...runsIn(answer), ...explained(answer.words), ...offered(answer.evidence, name), ...pictured(answer.picture, name),
+    ...textIn(answer.text, name), made("h3", "", "What was judged"), fileFacts(given, answer)];
 }
 
 // Shows an answer above those before it, and returns its sentence.
@@ -335,13 +374,13 @@ function show(given, told) {
   const answer = { verdicts: [], ...told, file: readShown(told.shown) };
   const outcome = outcomeOf(answer), said = headline(outcome, answer), head = made("h2", "", titleOf(given));
   head.id = `answer${byId("answers").childElementCount}`;
-  const it = made("article", LOOKS[outcome] ?? "none", head, made("p", "answer", said),
+  const it = made("article", lookOf(outcome, answer), head, made("p", "answer", said),
     buttonsOf(titleOf(given), answer), ...partsOf(given, answer, head.id));
   it.setAttribute("aria-labelledby", head.id);
   it.dataset.end = answer.end;
   byId("answers").prepend(it);
   given.replies?.append(made("p", "reply long", made("strong", "", given.log.name), `: ${said}`));
-  if (given.replies) it.scrollIntoView();
+  it.scrollIntoView();
   return said;
 }
 

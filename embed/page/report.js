@@ -36,7 +36,8 @@ function reportOf(article, name, picture) {
     marked("meta", { "http-equiv": "Content-Security-Policy", content: REPORT_POLICY }),
     marked("meta", { name: "viewport", content: "width=device-width, initial-scale=1" }));
   paper.head.append(made("style", "", document.querySelector("style").textContent));
-  paper.body.append(made("main", "", made("h1", "", "Report of Vamuretu's page"), copy, made("p", "worth", byId("worth").content.cloneNode(true))));
+  const limits = document.querySelector(".limits").cloneNode(true), worth = byId("worth").content.cloneNode(true);
+  paper.body.append(made("main", "", made("h1", "", "Report of Vamuretu's page"), copy, made("p", "worth", worth), limits));
   return `<!doctype html>\n${paper.documentElement.outerHTML}\n`;
 }
 
