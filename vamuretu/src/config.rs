@@ -545,19 +545,35 @@ pub fn from_toml<T: DeserializeOwned>(path: &Path, text: &str) -> Result<T, End>
     toml::from_str(text).map_err(|told| fault_of(path, text, &told.to_string()))
 }
 
+/// What is said of an address that is none, and what is said in its place.
+const NO_ADDRESS: [&str; 2] = [
+    "invalid socket address syntax",
+    "no address with a port, as 192.0.2.1:4700 (names of hosts are not looked up)",
+];
+
 /// What is wrong with a text. Of an unknown key `toml` tells the line where its table ends, and not that of the key.
 fn fault_of(path: &Path, text: &str, told: &str) -> End {
-    let key = told.strip_prefix("unknown field `").and_then(|rest| Some(rest.split_once('`')?.0));
-    let has_key = |line: &str| {
-        let rest = key.and_then(|key| line.trim_start().trim_start_matches('[').strip_prefix(key));
-        rest.map_or(false, |rest| rest.trim_start().starts_with(['=', ']']))
-    };
-    match text.lines().position(has_key) {
-        Some(line) => {
-            End::fault(path, format!("line {}: {}", line + 1, told.split(" at line ").next().unwrap_or(told)))
-        }
-        None => End::fault(path, told),
+    let quoted = |front: &str| Some(told.split_once(front)?.1.split_once('`')?.0);
+    let line = quoted("unknown field `").and_then(|key| line_of(text, key, quoted(" for key `")));
+    match line {
+        Some(line) => End::fault(path, format!("line {line}: {}", told.split(" at line ").next().unwrap_or(told))),
+        None => End::fault(path, told.replace(NO_ADDRESS[0], NO_ADDRESS[1])),
     }
+}
+
+/// The number of the first line that has a key, in a table of this name if one has it there.
+fn line_of(text: &str, key: &str, table: Option<&str>) -> Option<usize> {
+    let (mut within, mut lines) = (None, vec![]);
+    for (number, line) in (1..).zip(text.lines().map(str::trim_start)) {
+        let rest = line.trim_start_matches('[').strip_prefix(key);
+        if rest.map_or(false, |rest| rest.trim_start().starts_with(['=', ']'])) {
+            lines.push((within == table, number));
+        }
+        if line.starts_with('[') {
+            within = line.trim_start_matches('[').split(']').next();
+        }
+    }
+    lines.iter().find(|(is_there, _)| *is_there).or(lines.first()).map(|&(_, number)| number)
 }
 
 /// A configuration of one kind or the other.
@@ -635,6 +651,12 @@ mod tests {
         let wrong = told(&format!("{text}\n[watch]\n")).expect_err("a wrong table");
         let line = text.lines().count() + 2;
         assert!(wrong.starts_with(&format!("2.toml: line {line}: unknown field `watch`")), "{wrong}");
+        // Other tables have a key of this name.
+        let wrong = told(&text.replace("days = 30", "days = 30\nfile = \"logs\"")).expect_err("a wrong key");
+        let line = text.lines().position(|line| line.starts_with("days")).expect("days") + 2;
+        assert!(wrong.starts_with(&format!("2.toml: line {line}: unknown field `file`")), "{wrong}");
+        let wrong = told(&text.replace("127.0.0.1:4702", "pump:4702")).expect_err("no address");
+        assert!(wrong.contains("no address with a port") && wrong.contains(" at line "), "{wrong}");
     }
 
     #[test]

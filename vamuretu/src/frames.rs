@@ -32,10 +32,11 @@ pub const REFUSED: u8 = b'R';
 /// Between neighbours: that this end wants receipts, with nothing behind it; a receipt behind the number of its run.
 pub const RECEIPTS_WANTED: u8 = b'K';
 pub const RECEIPT: u8 = b'T';
-/// At the door for devices: which decisions are wanted; a decision; runs of which none can be handed out; that the node is there.
+/// At the door for devices: which decisions are wanted; a decision; runs of which none can be handed out.
 pub const DECISIONS_WANTED: u8 = b'W';
 pub const DECISION: u8 = b'D';
 pub const MISSING: u8 = b'M';
+/// To devices and to neighbours: that the node is there, where nothing else was sent for a while.
 pub const PRESENT: u8 = b'P';
 
 /// How long a connection may take to be made, and to say who is there.

@@ -131,7 +131,7 @@ enum Command {
     Decisions {
         #[command(flatten)]
         of: OfNode,
-        /// The first run
+        /// The first run, of the system of the configuration: those of the next system follow
         #[arg(long, value_name = "RUN")]
         from: Option<u32>,
     },
@@ -229,7 +229,9 @@ fn perform(command: &Command) -> Result<bool, End> {
             node::local::tell(&of.read()?, &request)
         }
         Command::Decisions { of, from } => {
-            node::local::tell_all(&of.read()?, &json!({ "ask": "decisions", "from": from }))
+            let file = of.read()?;
+            let system = from.map(|_| hex::encode(file.system.id));
+            node::local::tell_all(&file, &json!({ "ask": "decisions", "from": from, "system": system }))
         }
         Command::Drain(of) => node::local::tell_all(&of.read()?, &json!({ "ask": "drain" })),
         Command::AcceptStep(of) => accept_step(of),

@@ -6,6 +6,7 @@ mod checked;
 mod export;
 pub mod files;
 pub mod judged;
+mod prune;
 pub mod read;
 pub mod room;
 mod store;
@@ -53,6 +54,8 @@ pub enum Archive {
         #[arg(long, conflicts_with_all = ["csv", "json"])]
         digests: bool,
     },
+    /// Takes away the files of a watcher's old runs, but for those that did not agree or convict somebody
+    Prune(prune::Prune),
 }
 
 /// Writes to standard output.
@@ -80,6 +83,7 @@ pub fn perform(asked: &Archive) -> Result<bool, End> {
             write(&format!("{told}\n"))?;
             Ok(counts.keys().any(|it| it != "agreed"))
         }
+        Archive::Prune(words) => write(&prune::prune(words)?).map(|()| false),
         Archive::Ask { index, question, range, json } => {
             let found = Reader::open(index)?.ask(*question, *range)?;
             let line = |it: &read::Found| if *json { text::json(&it.json()) } else { it.line() };

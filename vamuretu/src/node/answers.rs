@@ -26,6 +26,8 @@ pub enum Line {
         run: u32,
         /// The value that was proposed for this run before, and is not any more.
         replaced: Option<Value>,
+        /// Why no run begins now, for people.
+        waits_for: Option<String>,
     },
     /// The answer to `decisions`, always true: lines `decided`, `stored`, `combined`, `lost`, `missed_decisions` and `missed_runs` follow.
     Listening {
@@ -214,7 +216,7 @@ pub struct Status {
     pub newest_run: i64,
     /// Counts of runs since it was started.
     pub runs: Runs,
-    /// How many sets of keys are behind that of the newest run.
+    /// How many sets of keys are behind that of the newest run, which is the mark at a start.
     pub sets_left: i64,
     /// Whether it begins no run any more.
     pub draining: bool,
@@ -427,8 +429,14 @@ mod tests {
         let close = || Value { name: "close".into() };
         let proposals = || [Some(close()), None].map(|value| Proposal { run: 9, value }).into();
         let lines = [
-            Line::Proposed { proposed: close(), system: id(), run: 9, replaced: None },
-            Line::Proposed { proposed: close(), system: id(), run: 9, replaced: Some(close()) },
+            Line::Proposed { proposed: close(), system: id(), run: 9, replaced: None, waits_for: None },
+            Line::Proposed {
+                proposed: close(),
+                system: id(),
+                run: 9,
+                replaced: Some(close()),
+                waits_for: Some("clock".into()),
+            },
             Line::Listening { listening: true },
             Line::Status { status: status(None).into() },
             Line::Status { status: Status { next: Some(status(None).into()), ..status(Some("the clock")) }.into() },

@@ -3,13 +3,13 @@
 //!
 //! A value is an object, `{"name": ..}` for an order of the configuration's table: other members may come for other values.
 
-use std::collections::{BTreeMap, BTreeSet, VecDeque};
+use std::collections::BTreeMap;
 use std::io::{self, BufRead, BufReader, Lines, Write};
 use std::os::unix::fs::{FileTypeExt, PermissionsExt};
 use std::os::unix::net::UnixStream as Asking;
 use std::path::Path;
 use std::sync::atomic::Ordering;
-use std::sync::{Arc, Mutex, MutexGuard};
+use std::sync::Arc;
 use std::time::Duration;
 
 use serde::{Deserialize, Serialize};
@@ -17,18 +17,17 @@ use serde_json::Value as Json;
 use tokio::io::{AsyncBufRead, AsyncBufReadExt, AsyncWriteExt};
 use tokio::net::unix::{OwnedReadHalf, OwnedWriteHalf};
 use tokio::net::{UnixListener, UnixStream};
-use tokio::sync::broadcast::{error::RecvError, Receiver};
-use tokio::sync::{OwnedSemaphorePermit, Semaphore};
+use tokio::sync::Semaphore;
 use tokio::time::{timeout, timeout_at, Instant};
 
-use super::answers::{self, Decided, Gone, Line, Lost, Proposal, Status, Stored};
+use super::answers::{self, Decided, Line, Lost, Proposal, Status, Stored};
 use super::counts::Counts;
 use super::nodes::Nodes;
 use super::runs::Outcome;
-use super::spool::{Kept, Spool};
-use super::{worth, Decisions, Shared};
+use super::telling::Listening;
+use super::{worth, Shared};
 use crate::clock::Look;
-use crate::config::{Id, NodeFile};
+use crate::config::NodeFile;
 use crate::doors::{Place, Places};
 use crate::systems::Run;
 use crate::End;
@@ -42,8 +41,6 @@ const MOST_WRITING: Duration = Duration::from_secs(5);
 const MOST_LISTENERS: usize = 32;
 /// How many others there may be: for one more the oldest is closed.
 const MOST_ASKERS: usize = 32;
-/// How many of the newest decisions stay in memory, for those who ask for older ones: of runs whose logs the disk has not, too.
-const MOST_NEWEST: usize = 64;
 /// The descriptors of this door.
 pub const DESCRIPTORS: usize = MOST_LISTENERS + MOST_ASKERS + 1;
 
@@ -68,8 +65,10 @@ pub enum Request {
     },
     /// The decisions from now on, a line each.
     Decisions {
-        /// A run of the present system, from which on the decisions come first that the spool has.
+        /// A run, from which on the decisions come first that the spool has; behind them those of the next system, from its run 0 on.
         from: Option<u32>,
+        /// The id of the system of that run: the present one, or one before it whose node this process has run since it was started.
+        system: Option<String>,
     },
     /// What the node says of itself.
     Status {},
@@ -119,82 +118,6 @@ pub fn lost_line(file: &NodeFile, lost: &BTreeMap<u32, u8>, why: &str) -> Arc<st
     Line::Lost { lost: Lost { system, proposals, why: why.into() } }.to_string().into()
 }
 
-/// The line of runs whose decisions are not kept.
-fn missed_line(system: &Id, first: u32, last: u32) -> Arc<str> {
-    Line::MissedRuns { missed_runs: Gone { system: hex::encode(system), first, last } }.to_string().into()
-}
-
-/// The lines of the decisions of a system, as applications hear them.
-pub struct Telling {
-    system: Id,
-    /// What takes lines of all systems.
-    hear: Decisions,
-    newest: Mutex<Newest>,
-}
-
-#[derive(Default)]
-struct Newest {
-    /// The lines of the newest decisions, which the spool may not have yet.
-    lines: BTreeMap<u32, Arc<str>>,
-    /// The runs that have begun, and have no decision yet.
-    under_way: BTreeSet<u32>,
-}
-
-impl Telling {
-    pub fn new(system: Id, hear: Decisions) -> Telling {
-        Telling { system, hear, newest: Mutex::default() }
-    }
-
-    fn newest(&self) -> MutexGuard<'_, Newest> {
-        self.newest.lock().unwrap_or_else(|told| told.into_inner())
-    }
-
-    /// Notes that a run is under way, or that it is over.
-    pub fn note(&self, run: u32, is_under_way: bool) {
-        let under_way = &mut self.newest().under_way;
-        _ = if is_under_way { under_way.insert(run) } else { under_way.remove(&run) };
-    }
-
-    pub fn tell(&self, line: Arc<str>) {
-        let _ = self.hear.send(line);
-    }
-
-    /// Tells the line of the decision of a run.
-    pub fn tell_decided(&self, run: u32, line: Arc<str>) {
-        let mut newest = self.newest();
-        newest.under_way.remove(&run);
-        newest.lines.insert(run, line.clone());
-        if newest.lines.len() > MOST_NEWEST {
-            newest.lines.pop_first();
-        }
-        // Who listens from here on gets it by the one way or by the other.
-        self.tell(line);
-    }
-
-    /// Tells that the disk has the log of a run, whose decision was told. Who listens from here on gets a line of the decision
-    /// that says so.
-    pub fn tell_stored(&self, run: u32, stored: Arc<str>, decided: Arc<str>) {
-        let mut newest = self.newest();
-        if let Some(line) = newest.lines.get_mut(&run) {
-            *line = decided;
-        }
-        self.tell(stored);
-    }
-
-    /// The newest decisions from a run on, and what has all lines behind them.
-    fn since(&self, run: u32) -> (Vec<(u32, Arc<str>)>, Receiver<Arc<str>>) {
-        let newest = self.newest();
-        let lines = newest.lines.range(run..).map(|(&run, line)| (run, line.clone()));
-        (lines.collect(), self.hear.subscribe())
-    }
-
-    /// The line of the runs from one on and below another, which are over and not kept, if there are any.
-    fn missed(&self, first: u32, end: u32) -> Option<Arc<str>> {
-        let end = self.newest().under_way.first().map_or(end, |&run| run.min(end));
-        (first < end).then(|| missed_line(&self.system, first, end - 1))
-    }
-}
-
 /// Takes away a socket that nobody serves. Nothing else that is there is touched.
 fn make_way(path: &Path) -> Result<(), End> {
     match std::fs::symlink_metadata(path) {
@@ -242,58 +165,10 @@ pub async fn serve(nodes: Arc<Nodes>, listener: UnixListener) {
 }
 
 /// The next decision, if this application asked for decisions.
-async fn next_decision(listening: &mut Option<(Arc<Shared>, Listening)>) -> Arc<str> {
+async fn next_decision(listening: &mut Option<(Vec<Arc<Shared>>, Listening)>) -> Arc<str> {
     match listening {
-        Some((of, listening)) => listening.next(&of.spool, &of.telling).await,
+        Some((of, listening)) => listening.next(&of.iter().map(|node| node.source()).collect::<Vec<_>>()).await,
         None => std::future::pending().await,
-    }
-}
-
-/// What an application has that listens to decisions: its place, too.
-struct Listening {
-    /// The run that it has come to, while it gets kept decisions.
-    from: Option<u32>,
-    ready: VecDeque<Arc<str>>,
-    decisions: Receiver<Arc<str>>,
-    _place: OwnedSemaphorePermit,
-}
-
-impl Listening {
-    fn new(from: Option<u32>, telling: &Telling, _place: OwnedSemaphorePermit) -> Listening {
-        Listening { from, ready: VecDeque::new(), decisions: telling.hear.subscribe(), _place }
-    }
-
-    /// The next line. If this is dropped, none is lost.
-    async fn next(&mut self, spool: &Spool, telling: &Telling) -> Arc<str> {
-        loop {
-            if let Some(line) = self.ready.pop_front() {
-                return line;
-            }
-            let Some(from) = self.from else { break };
-            match spool.next_kept(Kept::Line, from) {
-                Some(run) => {
-                    let line = spool.read_line(run).await.ok().map(Arc::from);
-                    self.put(telling, run, line.unwrap_or_else(|| missed_line(&telling.system, run, run)));
-                }
-                None => {
-                    let (lines, decisions) = telling.since(from);
-                    lines.into_iter().for_each(|(run, line)| self.put(telling, run, line));
-                    (self.from, self.decisions) = (None, decisions);
-                }
-            }
-        }
-        match self.decisions.recv().await {
-            Ok(line) => line,
-            Err(RecvError::Lagged(count)) => Line::Missed { missed_decisions: count }.to_string().into(),
-            Err(RecvError::Closed) => std::future::pending().await,
-        }
-    }
-
-    /// Has the line of a run follow, behind one of those that are missing in front of it.
-    fn put(&mut self, telling: &Telling, run: u32, line: Arc<str>) {
-        self.ready.extend(self.from.and_then(|from| telling.missed(from, run)));
-        self.ready.push_back(line);
-        self.from = Some(run.saturating_add(1));
     }
 }
 
@@ -350,8 +225,8 @@ struct Client {
     listeners: Arc<Semaphore>,
     requests: Requests,
     to: OwnedWriteHalf,
-    /// What it hears, and the node whose kept decisions it asked for.
-    listening: Option<(Arc<Shared>, Listening)>,
+    /// What it hears, and the nodes whose kept decisions it asked for.
+    listening: Option<(Vec<Arc<Shared>>, Listening)>,
 }
 
 impl Client {
@@ -414,7 +289,7 @@ impl Client {
                 Ok(proposed) => proposed,
                 Err(why) => Line::Refused { refused: why },
             },
-            Ok(Request::Decisions { from }) => self.listen(from),
+            Ok(Request::Decisions { from, system }) => self.listen(from, system.as_deref()),
             Ok(Request::Status {}) => Line::Status { status: status_of_all(&self.nodes).into() },
             Ok(Request::Drain {}) => {
                 self.nodes.drain();
@@ -426,15 +301,23 @@ impl Client {
     }
 
     /// Begins to listen to decisions, if there is a place.
-    fn listen(&mut self, from: Option<u32>) -> Line {
+    fn listen(&mut self, from: Option<u32>, system: Option<&str>) -> Line {
+        let of = match system {
+            Some(system) => self.nodes.from_system(system),
+            None => Some(self.nodes.from_now()),
+        };
+        let Some(of) = of.map(<[_]>::to_vec) else {
+            return Line::Refused { refused: "this process has no node of that system".into() };
+        };
         let place = match self.listening.take() {
-            Some((_, listening)) => Ok(listening._place),
+            Some((_, listening)) => Ok(listening.give_place()),
             None => self.listeners.clone().try_acquire_owned(),
         };
         match place {
             Ok(place) => {
-                let of = self.nodes.now().clone();
-                let listening = Listening::new(from, &of.telling, place);
+                // Of each later system all that is kept follows.
+                let from = from.map(|run| std::iter::once(run).chain(std::iter::repeat(0)).take(of.len()).collect());
+                let listening = Listening::new(from.unwrap_or_default(), &of[0].telling, place);
                 self.listening = Some((of, listening));
                 Line::Listening { listening: true }
             }
@@ -463,7 +346,8 @@ fn propose_to(node: &Shared, value: &Value, run: Option<u32>) -> Result<Line, St
     let order = *node.file.orders.get(&value.name).ok_or("the table has no order of this name")?;
     let (run, replaced) = node.propose(run, order)?;
     let replaced = replaced.and_then(|order| value_of(&node.file, order.into()));
-    Ok(Line::Proposed { proposed: value.clone(), system: hex::encode(node.file.system.id), run, replaced })
+    let (system, waits_for) = (hex::encode(node.file.system.id), node.waits_for().map(|it| it.to_string()));
+    Ok(Line::Proposed { proposed: value.clone(), system, run, replaced, waits_for })
 }
 
 /// As `propose_to`, of the present system. Without a number it is of the next system where no run is left in the present one.
@@ -590,7 +474,6 @@ mod tests {
     use std::os::unix::net::UnixListener as Listener;
 
     use super::*;
-    use crate::node::spool::tests::{end, settle, spool};
 
     #[test]
     fn a_socket_takes_no_place_but_that_of_one_that_nobody_serves() {
@@ -618,6 +501,7 @@ mod tests {
         }
         assert!(takes(r#"{"ask": "propose", "value": {"name": "close"}}"#));
         assert!(takes(r#"{"ask": "decisions", "from": 7}"#) && !takes(r#"{"ask": "decisions", "from": -7}"#));
+        assert!(takes(r#"{"ask": "decisions", "from": 7, "system": "1a"}"#));
         for more in [r#""run": 7"#, r#""run": null"#] {
             assert!(takes(&format!(r#"{{"ask": "propose", "value": {{"name": "close"}}, {more}}}"#)), "{more}");
         }
@@ -625,68 +509,6 @@ mod tests {
             assert!(!takes(&format!(r#"{{"ask": "propose", "value": {{"name": "close"}}, {wrong}}}"#)), "{wrong}");
         }
         assert!(!takes(r#"{"ask": "propose", "value": {"name": "close", "more": 1}}"#));
-    }
-
-    fn telling() -> Telling {
-        Telling::new([7; 32], tokio::sync::broadcast::channel(9).0)
-    }
-
-    fn decided(run: u32) -> Arc<str> {
-        format!("{{\"run\":{run}}}").into()
-    }
-
-    /// The next lines of an application that asked for decisions from a run on.
-    async fn lines_of(listening: &mut Listening, spool: &Spool, telling: &Telling, count: usize) -> Vec<String> {
-        let mut lines = vec![];
-        for _ in 0..count {
-            lines.push(timeout(LIMIT * 9, listening.next(spool, telling)).await.expect("a line").to_string());
-        }
-        lines
-    }
-
-    #[tokio::test]
-    async fn who_was_away_gets_what_it_missed() {
-        let (spool, telling, places) = (spool("lines", 0, 99, 1 << 20), telling(), Arc::new(Semaphore::new(9)));
-        let from = |run| Listening::new(run, &telling, places.clone().try_acquire_owned().expect("a place"));
-        // Runs 3 and 4 are kept, 5 is neither kept nor decided, 6 and 8 are in memory alone, and 7 is under way.
-        (3..5).for_each(|run| spool.keep_line(run, &decided(run)));
-        settle(&spool);
-        telling.note(7, true);
-        [3, 4, 6, 8].iter().for_each(|&run| telling.tell_decided(run, decided(run)));
-        let mut all = from(Some(1));
-        let missed = |first, last| missed_line(&[7; 32], first, last).to_string();
-        let wanted =
-            [missed(1, 2), decided(3).to_string(), decided(4).to_string(), missed(5, 5), decided(6).to_string()];
-        assert_eq!(lines_of(&mut all, &spool, &telling, 5).await, wanted);
-        assert_eq!(lines_of(&mut all, &spool, &telling, 1).await, [decided(8).to_string()], "7 is still to come");
-        let (mut now, mut ahead) = (from(None), from(Some(50)));
-        assert!(timeout(LIMIT, ahead.next(&spool, &telling)).await.is_err(), "run 50 is to come");
-        telling.tell_decided(7, decided(7));
-        for it in [&mut all, &mut now, &mut ahead] {
-            assert_eq!(lines_of(it, &spool, &telling, 1).await, [decided(7).to_string()]);
-        }
-        assert_eq!(lines_of(&mut from(Some(4)), &spool, &telling, 1).await, [decided(4).to_string()]);
-        end(spool);
-    }
-
-    #[tokio::test]
-    async fn who_listens_hears_once_that_a_log_is_stored() {
-        let (spool, telling, places) = (spool("stored", 0, 99, 1 << 20), telling(), Arc::new(Semaphore::new(9)));
-        let from = |run| Listening::new(run, &telling, places.clone().try_acquire_owned().expect("a place"));
-        let [first, stored, second]: [Arc<str>; 3] = ["decided", "stored", "decided and stored"].map(Arc::from);
-        let (mut all, mut before) = (from(None), from(Some(5)));
-        telling.tell_decided(5, first.clone());
-        assert_eq!(lines_of(&mut before, &spool, &telling, 1).await, [first.to_string()]);
-        telling.tell_stored(5, stored.clone(), second.clone());
-        assert_eq!(lines_of(&mut before, &spool, &telling, 1).await, [stored.to_string()]);
-        assert_eq!(lines_of(&mut all, &spool, &telling, 2).await, [first.to_string(), stored.to_string()]);
-        let mut behind = from(Some(5));
-        assert_eq!(lines_of(&mut behind, &spool, &telling, 1).await, [second.to_string()]);
-        telling.tell(Arc::from("next"));
-        for it in [&mut all, &mut before, &mut behind] {
-            assert_eq!(lines_of(it, &spool, &telling, 1).await, ["next"]);
-        }
-        end(spool);
     }
 
     const LIMIT: Duration = Duration::from_millis(200);

@@ -15,6 +15,7 @@ mod runs;
 mod shelf;
 pub mod ship;
 pub mod spool;
+mod telling;
 mod vote;
 mod waits;
 mod worth;
@@ -37,11 +38,11 @@ use self::counts::Counts;
 use self::gather::{Gather, Opened};
 use self::inbox::{Inbox, Inboxes};
 use self::keys::Keeper;
-use self::local::Telling;
 use self::nodes::Nodes;
 use self::peers::Links;
 use self::runs::{Outcome, Play};
 use self::spool::Spool;
+use self::telling::{Source, Telling};
 use self::vote::Votes;
 use self::waits::{Passing, Waits};
 use crate::clock::{self, Guard, Look};
@@ -177,6 +178,13 @@ impl Shared {
         })
     }
 
+    /// Notes how many sets of keys are behind that of the newest run that may have signed, if one may.
+    fn note_sets(&self, newest: Option<u32>) {
+        let (sets, slots) = (self.systems.runs() / self.systems.slots(), self.systems.slots());
+        let used = newest.map_or(0, |run| 1 + u64::from(run) / slots);
+        self.counts.sets_left.set(sets.saturating_sub(used) as i64);
+    }
+
     /// Counts a frame that was refused.
     pub fn refuse(&self, fault: NodeFault) {
         self.counts.refused.with_label_values(&[&format!("{fault:?}")]).inc();
@@ -225,6 +233,13 @@ impl Shared {
     /// Notes that the node has ended, and that no further sign of it comes.
     fn has_ended(&self) {
         self.alive.store(u64::MAX, Ordering::SeqCst);
+    }
+
+    /// What it has of the decisions that it has told.
+    pub fn source(&self) -> Source<'_> {
+        let has_ended = self.alive.load(Ordering::SeqCst) == u64::MAX;
+        let ended = has_ended.then(|| u32::try_from(self.systems.runs()).unwrap_or(u32::MAX));
+        Source { spool: &self.spool, telling: &self.telling, ended }
     }
 
     /// Whether there was a sign of the node within a time, or it has ended.
@@ -452,8 +467,7 @@ impl Scheduler {
         let node = Node::of_keys(&run.header, own, keys, order)
             .map_err(|told| End::fault(&shared.file.node.state, format!("run {number}: {told}")))?;
         shared.counts.newest.set(number.into());
-        let sets = shared.systems.runs() / shared.systems.slots();
-        shared.counts.sets_left.set(sets as i64 - 1 - i64::from(run.set.number));
+        shared.note_sets(Some(number));
         if let Some(left) = self.life.alarm(shared.systems.runs(), number) {
             tracing::error!(alarm = "life", run = number, left, "few runs are left: the next system has to be ready");
         }
@@ -656,6 +670,7 @@ impl Started {
         let keeper = Keeper::open(file, systems.slots() as u32)?;
         let next = keeper.newest().map_or(0, |mark| mark.saturating_add(1));
         let shared = Arc::new(Shared::new(file, systems, &first, next, decisions)?);
+        shared.note_sets(keeper.newest());
         ahead::start(&shared)?;
         gather::start(&shared)?;
         start(runtime, &shared)?;

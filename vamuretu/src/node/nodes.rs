@@ -55,6 +55,12 @@ impl Nodes {
         &self.0[place_at(self.0.iter().map(opens), now_ms)..]
     }
 
+    /// The node of the system with this id, in digits, and behind it those of later systems.
+    pub fn from_system(&self, id: &str) -> Option<&[Arc<Shared>]> {
+        let place = self.0.iter().position(|node| hex::encode(node.file.system.id) == id)?;
+        Some(&self.0[place..])
+    }
+
     /// The node of which applications ask.
     pub fn now(&self) -> &Arc<Shared> {
         &self.from_now()[0]

@@ -23,6 +23,8 @@ const MOST_WRITING: Duration = Duration::from_secs(2);
 /// So is one on which nothing comes for so long, and for some periods.
 const MOST_SILENCE: Duration = Duration::from_secs(10);
 const SILENT_PERIODS: u32 = 3;
+/// Where nothing else goes out, so many signs of life do in that time: a system whose first run is to come has no frames.
+const SIGNS: u32 = 3;
 
 /// A neighbour has one connection, and the newest is it.
 const PLACES: usize = 1;
@@ -186,10 +188,15 @@ impl Drop for Gauge {
     }
 }
 
+/// After how long without a byte a connection is closed.
+fn most_silence(shared: &Shared) -> Duration {
+    MOST_SILENCE.max(shared.file.clock.period() * SILENT_PERIODS)
+}
+
 /// Takes frames and receipts until the connection ends.
 async fn read_all(shared: &Shared, link: &Link, mut from: ReadHalf<Stream>) -> io::Result<()> {
     let (number, takes_receipts) = (link.peer.number, shared.gather.is_some());
-    let silence = MOST_SILENCE.max(shared.file.clock.period() * SILENT_PERIODS);
+    let silence = most_silence(shared);
     let receipt = if takes_receipts { NUMBER + MOST_RECEIPT } else { 0 };
     let most = shared.longest_frame.max(receipt);
     loop {
@@ -200,22 +207,36 @@ async fn read_all(shared: &Shared, link: &Link, mut from: ReadHalf<Stream>) -> i
             frames::FRAME => take_frame(shared, number, message.body),
             frames::RECEIPT if takes_receipts => take_receipt(shared, number, &message.body),
             frames::RECEIPTS_WANTED if message.body.is_empty() => link.wants_receipts.store(true, Ordering::SeqCst),
+            frames::PRESENT if message.body.is_empty() => {}
             _ => return Err(io::Error::new(io::ErrorKind::InvalidData, "a message of another kind")),
         }
     }
 }
 
-/// Writes what goes to the neighbour until the connection ends. A node with a door for devices asks for receipts first.
-async fn write_all(shared: &Shared, link: &Link, mut to: WriteHalf<Stream>) -> io::Result<()> {
-    if shared.gather.is_some() {
-        frames::write(&mut to, frames::RECEIPTS_WANTED, &[]).await?;
-    }
+/// Writes a message to a neighbour, which has to take it soon.
+async fn write(to: &mut WriteHalf<Stream>, kind: u8, body: &[u8]) -> io::Result<()> {
+    frames::within(MOST_WRITING, "it does not read", frames::write(to, kind, &[body])).await
+}
+
+/// Writes what goes to the neighbour until the connection ends, and a sign of life where nothing went for so long.
+async fn write_all(link: &Link, mut to: WriteHalf<Stream>, quiet: Duration) -> io::Result<()> {
     loop {
-        let (kind, out) = link.next().await;
-        let written = timeout(MOST_WRITING, frames::write(&mut to, kind, &[&out.bytes])).await;
-        written.map_err(|_| io::Error::new(io::ErrorKind::TimedOut, "it does not read"))??;
-        out.is_handed_over();
+        match timeout(quiet, link.next()).await {
+            Ok((kind, out)) => {
+                write(&mut to, kind, &out.bytes).await?;
+                out.is_handed_over();
+            }
+            Err(_) => write(&mut to, frames::PRESENT, &[]).await?,
+        }
     }
+}
+
+/// Asks for receipts if this node has a door for devices, and then writes all.
+async fn ask_and_write(shared: &Shared, link: &Link, mut to: WriteHalf<Stream>) -> io::Result<()> {
+    if shared.gather.is_some() {
+        write(&mut to, frames::RECEIPTS_WANTED, &[]).await?;
+    }
+    write_all(link, to, most_silence(shared) / SIGNS).await
 }
 
 /// Carries frames and receipts both ways until the connection ends.
@@ -231,7 +252,7 @@ async fn serve(shared: &Shared, link: &Link, stream: Stream) {
     let (from, to) = tokio::io::split(stream);
     let ended = tokio::select! {
         ended = read_all(shared, link, from) => ended,
-        ended = write_all(shared, link, to) => ended,
+        ended = ask_and_write(shared, link, to) => ended,
     };
     link.is_changed();
     let told = ended.map_or_else(|told| told.to_string(), |()| "it ended".into());
@@ -262,11 +283,37 @@ fn take_receipt(shared: &Shared, from: u32, body: &[u8]) {
 mod tests {
     use super::*;
 
-    #[tokio::test]
-    async fn receipts_go_behind_frames_to_who_wants_them() {
+    fn links() -> Links {
         let dropped = prometheus::IntCounterVec::new(prometheus::Opts::new("dropped", "frames"), &["peer"]);
         let peer = |number| Peer { number, address: ([127, 0, 0, 1], 1).into(), keys: vec![] };
-        let links = Links::new([1, 2].map(peer).iter(), 1 << 16, dropped.expect("made"));
+        Links::new([1, 2].map(peer).iter(), 1 << 16, dropped.expect("made"))
+    }
+
+    #[tokio::test]
+    async fn who_has_nothing_to_send_gives_a_sign_of_life() {
+        let (links, quiet) = (links(), Duration::from_millis(40));
+        let link = links.links[&1].clone();
+        let (near, mut far) = tokio::io::duplex(1 << 16);
+        let (_from, to) = tokio::io::split(Box::new(near) as Stream);
+        let since = Instant::now();
+        let writing = tokio::spawn(async move { write_all(&link, to, quiet).await });
+        let mut kinds = vec![];
+        for frame in [false, false, true, false] {
+            if frame {
+                links.send(1, Outgoing::new(Arc::from(&b"a frame"[..])));
+            }
+            let message = frames::read(&mut far, 9).await.expect("read").expect("a message");
+            kinds.push((message.kind, message.body.len()));
+        }
+        let present = (frames::PRESENT, 0);
+        assert_eq!(kinds, [present, present, (frames::FRAME, 7), present]);
+        assert!(since.elapsed() >= quiet * 3);
+        writing.abort();
+    }
+
+    #[tokio::test]
+    async fn receipts_go_behind_frames_to_who_wants_them() {
+        let links = links();
         let [one, two] = [1, 2].map(|number| links.links[&number].clone());
         one.wants_receipts.store(true, Ordering::SeqCst);
         links.hand_on(7, b"a receipt");

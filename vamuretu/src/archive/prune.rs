@@ -1,0 +1,138 @@
+//! Takes the files of old runs out of the folder of a watcher: those of runs that agreed and convict nobody. The index keeps its
+//! rows, with the digest of each bundle, and all evidence stays.
+
+use std::fs;
+use std::io;
+use std::path::{Path, PathBuf};
+
+use serde_json::json;
+
+use super::read::{Kept, Reader};
+use crate::config::{self, WatchFile};
+use crate::watch::keep::{bundle_path, BUNDLE, EARLIER, VERDICT};
+use crate::End;
+
+/// What is taken away.
+#[derive(clap::Args)]
+pub struct Prune {
+    /// The configuration of the watcher
+    file: PathBuf,
+    /// How many of the newest runs keep their files
+    #[arg(long, value_name = "RUNS", value_parser = clap::value_parser!(u32).range(1..))]
+    keep: u32,
+}
+
+/// The path of the bundle of a run that goes: one that a watcher has judged as agreed with nobody convicted, below the first run
+/// that stays. The path has to be that by which a watcher stores this bundle.
+fn bundle_of(row: &Kept, first: u32) -> Option<String> {
+    let number = row.number.filter(|&number| number < first)?;
+    let is_plain = row.source == "watcher" && row.verdict.as_deref() == Some("agreed") && row.convicted.is_empty();
+    let path = bundle_path(number, row.input.as_deref()?);
+    (is_plain && row.path.as_deref() == Some(Path::new(&path))).then_some(path)
+}
+
+/// Takes a file away. Tells its bytes, or none if it is not there.
+fn take(path: &Path) -> Result<u64, End> {
+    let taken = fs::symlink_metadata(path).and_then(|told| fs::remove_file(path).map(|()| told.len()));
+    match taken {
+        Err(told) if told.kind() == io::ErrorKind::NotFound => Ok(0),
+        told => told.map_err(End::file(path)),
+    }
+}
+
+/// Takes away the files of a run by the path of its bundle, and their folder if nothing is left in it. Tells the bytes.
+fn take_run(folder: &Path, bundle: &str) -> Result<u64, End> {
+    let stem = bundle.trim_end_matches(BUNDLE);
+    let of = |end: &str| take(&folder.join(format!("{stem}{end}")));
+    // The bundle goes last: a run whose files went in part is taken up again.
+    let bytes = of(VERDICT)? + of(EARLIER)? + of(BUNDLE)?;
+    if let Some(below) = folder.join(bundle).parent() {
+        let _ = fs::remove_dir(below);
+    }
+    Ok(bytes)
+}
+
+/// The command `archive prune`. Tells how many runs have lost their files, and how many bytes these had.
+pub fn prune(words: &Prune) -> Result<String, End> {
+    let file: WatchFile = config::read(&words.file)?;
+    let reader = Reader::open(&file.watch.database)?;
+    let mut newest = None;
+    reader.each_kept(|row| {
+        newest = newest.max(row.number.filter(|_| row.source == "watcher"));
+        Ok(())
+    })?;
+    let first = newest.map_or(0, |newest| newest.saturating_add(1).saturating_sub(words.keep));
+    let (mut runs, mut bytes) = (0, 0);
+    reader.each_kept(|row| {
+        let taken = bundle_of(&row, first).map_or(Ok(0), |bundle| take_run(&file.watch.folder, &bundle))?;
+        (runs, bytes) = (runs + u64::from(taken > 0), bytes + taken);
+        Ok(())
+    })?;
+    Ok(format!("{}\n", json!({ "pruned": { "runs": runs, "bytes": bytes, "first": first } })))
+}
+
+#[cfg(test)]
+mod tests {
+    use super::*;
+
+    /// The row of a run of a watcher.
+    fn row(number: u32, verdict: &str, convicted: &[&str]) -> Kept {
+        let sha256 = format!("{number:064x}");
+        Kept {
+            source: "watcher".into(),
+            number: Some(number),
+            run_id: None,
+            verdict: Some(verdict.into()),
+            value: None,
+            listed: vec![],
+            missing: vec![],
+            suspected: vec![],
+            equal_roots: vec![],
+            findings: vec![],
+            nodes: vec![],
+            convicted: convicted.iter().map(|&it| it.into()).collect(),
+            fault: None,
+            path: Some(bundle_path(number, &sha256).into()),
+            place: 0,
+            bytes: None,
+            modified: None,
+            sha256: None,
+            input: Some(sha256),
+            library: "1".into(),
+            program: None,
+            judged: 1,
+            gone: false,
+        }
+    }
+
+    #[test]
+    fn old_runs_go_that_agreed_and_convict_nobody() {
+        let goes = |row: Kept| bundle_of(&row, 1200).is_some();
+        assert!(goes(row(7, "agreed", &[])) && goes(row(1199, "agreed", &[])) && !goes(row(1200, "agreed", &[])));
+        assert!(["no", "explained", "gap"].iter().all(|verdict| !goes(row(7, verdict, &[]))));
+        assert!(!goes(row(7, "agreed", &["node 3 by K2"])));
+        assert!(!goes(Kept { source: "archive".into(), ..row(7, "agreed", &[]) }));
+        for path in ["../../etc/passwd", "0000000/8-00000000.bundle.zst"] {
+            assert!(!goes(Kept { path: Some(path.into()), ..row(7, "agreed", &[]) }), "{path}");
+        }
+    }
+
+    #[test]
+    fn evidence_stays_and_so_does_its_folder() {
+        let folder = std::env::temp_dir().join(format!("vamuretu.{}.prune", std::process::id()));
+        for below in ["0000000", "0000001"] {
+            fs::create_dir_all(folder.join(below)).expect("a folder");
+        }
+        let (one, other) = (bundle_path(7, "aaaaaaaa"), bundle_path(1007, "bbbbbbbb"));
+        let evidence = one.replace(BUNDLE, ".node-3.evidence");
+        let verdict = one.replace(BUNDLE, VERDICT);
+        for path in [&one, &other, &evidence, &verdict] {
+            fs::write(folder.join(path), b"12345").expect("a file");
+        }
+        let taken = |bundle: &str| take_run(&folder, bundle).expect("taken");
+        assert_eq!([taken(&one), taken(&one), taken(&other)], [10, 0, 5]);
+        let is_there = |path: &str| folder.join(path).exists();
+        assert_eq!([&*evidence, &*one, &*verdict, "0000001"].map(is_there), [true, false, false, false]);
+        fs::remove_dir_all(&folder).expect("taken away");
+    }
+}
