@@ -36,6 +36,7 @@ KEPT = [
     "docs/GLOSSARY.md",
     "docs/IDENTITIES.md",
     "docs/LIBRARY.md",
+    "docs/LIFE.md",
     "docs/LLVM.md",
     "docs/NODES.md",
     "docs/PAGE.md",

@@ -159,8 +159,8 @@ def requests():
     yield from (row("Member", "Value", "What it is"), "|---|---|---|")
     for request in types["Request"].members:
         yield row("`ask`", f'`"{word_of(request)}"`', request.parts()[""])
-        for path, it in members_of(request, types):
-            yield row(f"`{path}`", spelled(it, types, True), it.parts()[""])
+        for it in request.members:
+            yield row(f"`{it.name}`", spelled(it, types, True), it.parts()[""])
 
 
 def lines():

@@ -125,7 +125,7 @@ def trials(program, tally):
     vamuretu = build_program(tally)
     if vamuretu is None:
         return
-    for name, told in tried_all(program, vamuretu, named([])):
+    for name, told in tried_all(program, vamuretu, tally.chosen(named([]))):
         if told["lacks"]:
             tally.note(f"left out: {cases()[name].name}: {told['lacks']}")
         else:

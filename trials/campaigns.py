@@ -106,5 +106,5 @@ def try_bytes(program, tally):
 def trials(program, tally):
     if "campaign" not in tally.commands:
         return
-    for part in (try_runs, try_across, try_texts, try_bytes):
+    for part in tally.chosen([try_runs, try_across, try_texts, try_bytes]):
         part(program, tally)

@@ -287,5 +287,5 @@ def try_longest(program, tally):
 
 
 def trials(program, tally):
-    for trial in (try_jobs, try_order, try_files, try_terminals, try_run_ids, try_longest):
+    for trial in tally.chosen([try_jobs, try_order, try_files, try_terminals, try_run_ids, try_longest]):
         trial(program, tally)

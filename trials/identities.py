@@ -537,6 +537,5 @@ def told_on_terminal(program, words, given):
 def trials(program, tally):
     if not {*COMMANDS} <= tally.commands:
         return
-    for trial in (try_words, try_terminals, try_stopped, try_progress):
+    for trial in tally.chosen([try_words, try_terminals, try_stopped, try_progress, try_all_systems]):
         trial(program, tally)
-    try_all_systems(program, tally)

@@ -204,8 +204,9 @@ def trials(program, tally):
     vamuretu = build_program(tally)
     if vamuretu is None:
         return
-    with concurrent.futures.ThreadPoolExecutor(len(WAYS)) as pool:
-        for section, (wrong, count, took) in zip(WAYS, pool.map(lambda it: go(it, program, vamuretu), WAYS)):
+    ways = tally.chosen(WAYS)
+    with concurrent.futures.ThreadPoolExecutor(len(ways)) as pool:
+        for section, (wrong, count, took) in zip(ways, pool.map(lambda it: go(it, program, vamuretu), ways)):
             tally.count(count)
             tally.hold(f"{PAGE}, {section}", "; ".join(wrong) or None)
             tally.note(f"{section}: {took:.0f} bytes of a run in the archive")

@@ -470,12 +470,13 @@ def trials(program, tally, is_timed=True):
         tally.note("left out: the program takes no several files")
         return
     with tempfile.TemporaryDirectory() as place:
-        folder = Folder(program, place, tally)
+        folder, parts = Folder(program, place, tally), [try_names, try_files, try_lists, try_options, try_words, try_pipes, try_lost_output]
+        chosen = tally.chosen([*parts, *([try_sizes] if is_timed else [])])
         for command in COMMANDS:
             for words in ([command], [command, "--json"]):
-                for trial in (try_names, try_files, try_lists, try_options, try_words, try_pipes, try_lost_output):
+                for trial in filter(parts.__contains__, chosen):
                     trial(folder, words)
-        if is_timed:
+        if try_sizes in chosen:
             try_sizes(folder)
         ran = [at for at, _, names in os.walk(place) if "ran" in names]
         tally.hold("no name is run", f"{ran}" if ran else None)

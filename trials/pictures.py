@@ -121,5 +121,5 @@ def try_faults(program, tally):
 def trials(program, tally):
     if "draw" not in tally.commands or not os.path.exists("/dev/full"):
         return
-    for part in (try_examples, try_bundles, try_campaigns, try_faults):
+    for part in tally.chosen([try_examples, try_bundles, try_campaigns, try_faults]):
         part(program, tally)

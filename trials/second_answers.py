@@ -10,7 +10,7 @@ import rows
 
 
 def trials(_program, tally):
-    for name in rows.files_named():
+    for name in tally.chosen(rows.files_named()):
         for number, asked, wanted, found in rows.rows_of(name):
             is_right = (found == wanted) != (name == rows.WRONG)
             tally.hold(f"{name}, line {number}", None if is_right else f"{asked[:200]} = {found[:300]}, not {wanted[:300]}")

@@ -79,8 +79,8 @@ def named_in_formats():
 
 def trials(program, tally):
     tried = set(rows.commands_tried())
-    for name, vectors in stored().items():
-        try_file(program, tally, name, vectors, tried)
+    for name in tally.chosen(stored()):
+        try_file(program, tally, name, stored()[name], tried)
     missing = named_in_formats() - told_by(vector for vectors in stored().values() for vector in vectors)
     tally.hold("all faults and findings", f"no vector tells {sorted(missing)}" if missing else None)
     stale = make_vectors.stale_files()

@@ -82,8 +82,9 @@ def try_quotes(document, tally):
 
 
 def trials(program, tally):
+    documents = tally.chosen(DOCUMENTS)
     try_quotes("LIBRARY.md", tally)
-    for document in DOCUMENTS:
+    for document in documents:
         try_document(program, document, tally)
     for pages, maker in (("man/sm_tool.1", "man.py"), ("man/*.3", "man3.py")):
         made = run(sys.executable, ["-B", os.path.join(TOP, "tools", maker), "--check"])

@@ -260,5 +260,5 @@ def try_kinds(program, tally):
 
 
 def trials(program, tally):
-    for trial in (try_runs, try_stored, try_stolen_key, try_bytes, try_texts, try_words, try_help, try_kinds):
+    for trial in tally.chosen([try_runs, try_stored, try_stolen_key, try_bytes, try_texts, try_words, try_help, try_kinds]):
         trial(program, tally)

@@ -65,9 +65,9 @@ pub enum Request {
     },
     /// The decisions from now on, a line each.
     Decisions {
-        /// A run, from which on the decisions come first that the spool has; behind them those of the next system, from its run 0 on.
+        /// A run, from which on the decisions come first that the spool has, and those of the next system.
         from: Option<u32>,
-        /// The id of the system of that run: the present one, or one before it whose node this process has run since it was started.
+        /// The id of the system of that run, of which this process has a node: the present one without it.
         system: Option<String>,
     },
     /// What the node says of itself.
