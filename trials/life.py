@@ -1,4 +1,4 @@
-"""A system for years (docs/LIFE.md): the next system at the end of the first with a new member, a lost disk, and a convicted member that leaves, by the commands of the page over four nodes that run.
+"""A system for years (docs/LIFE.md): a new member, a lost disk, and a convicted member that leaves, each by the commands of the page over four nodes that run.
 
 Each way has a folder and a system of its own, which docs/SYSTEM.md sets up, and the ways go side by side. Fewer sets of keys are
 made than the page makes, and what waits for a moment waits for less. What the page only tells this brings about: a node whose
@@ -26,7 +26,7 @@ from walk import shown
 
 PAGE, NEXT = "LIFE.md", "The next system"
 # What stands on the pages, and what stands here in its place.
-SHORTER = [("+ 10))000", "+ 5))000"), ("sleep 12", "sleep 7"), ("'1 hour'", "'20 seconds'")]
+SHORTER = [("+ 10))000", "+ 7))000"), ("sleep 12", "sleep 9"), ("'1 hour'", "'20 seconds'")]
 # The runs of the newest that `archive prune` leaves here.
 KEEPS = 3
 # Bytes of a run in the archive of four nodes, and by how much they may differ.
@@ -104,8 +104,8 @@ class Way:
 def run_twice(way):
     """A second process of node 3, whose state was copied, and which nobody hears but the watcher."""
     lines = [
-        "cp -r 3 twin && rm -rf twin/socket twin/spool",
-        f"sed -E 's,\"3/(state|spool|socket),\"twin/\\1,; s/:{way.block}[0-37]([0-9])\"/:{way.block}9\\1\"/' 3.toml > twin.toml",
+        "mkdir -m 700 twin && cp 3/state 3/state.mark twin",
+        f"sed -E 's,\"3/(state|spool|socket),\"twin/\\1,; s/:{way.block}[02]([0-9])\"/:{way.block}9\\1\"/' 3.toml > twin.toml",
         "vamuretu node twin.toml > twin.said 2>&1 &",
     ]
     for line in lines:
@@ -152,38 +152,43 @@ def archive_wrong(way):
 
 def connections_wrong(way):
     """No connection was closed because nothing came on it."""
-    said = "".join(way.read(name) for name in os.listdir(way.place) if name.endswith(".said"))
+    names = [os.path.join(at, name) for at in ("", "next") for name in os.listdir(os.path.join(way.place, at)) if name.endswith(".said")]
+    said = "".join(map(way.read, names))
     way.holds('"nothing comes"' not in said, "connections were closed on which nothing came")
 
 
-# The ways, each with the levels of its systems, and with what is done in front of the commands of its section.
-WAYS = {"A new member": (3, None), "A lost disk": (5, lose_disk), "A member that leaves, or is convicted": (5, run_twice)}
+# The ways: the levels of the systems of each, what happens in it, and how the command begins in front of which that does.
+WAYS = {
+    "A new member": (3, "mkdir", lambda _: None),
+    "A lost disk": (5, "rm -r 2", lose_disk),
+    "A member that leaves, or is convicted": (5, "vamuretu archive ask", run_twice),
+}
 
 
 def split(section):
-    """The commands of a section in front of the first step of the next system and behind it, and the steps, in the first of which
-    the section says who the members are."""
-    own, steps = shown(PAGE, section), shown(PAGE, NEXT)
-    behind = [row for row in own if " next/" in row[0] or "next/*" in row[0]]
-    return [row for row in own if row not in behind], behind, steps[1:2], steps[2:]
+    """The commands of a way in front of the end of the first system, and from there on. Those of its section stand behind that which
+    says who is in the next system, or on the drafts behind these."""
+    own, (members, drafts, *steps) = shown(PAGE, section), shown(PAGE, NEXT)
+    behind = [row for row in own if " next/" in row[0]]
+    front = [*shown(PAGE)[:1], members, *(row for row in own if row not in behind)]
+    ends = next(place for place, (command, _) in enumerate(steps) if command.endswith("again $g.toml next/$g.toml; done"))
+    return [*front, drafts, *behind, *steps[:ends]], steps[ends:]
 
 
 def follow(way):
-    """Goes a way. Tells how many commands it was, and how many bytes a run took."""
-    levels, before = WAYS[way.section]
+    """Goes a way. Tells how many commands these were, and how many bytes a run took."""
+    _, begins, before = WAYS[way.section]
     setting_up = itertools.takewhile(lambda row: " decisions " not in row[0], shown(DOCUMENT, SECTION))
     count = way.do(list(setting_up), DOCUMENT)
-    front, behind, first, rest = split(way.section)
-    if before is lose_disk:
-        # Node 1 has lost its mark, and then node 2 all.
-        here = next(place for place, (command, _) in enumerate(front) if command.startswith("rm -r 2"))
-        count, front = count + way.do(front[:here], PAGE), front[here:]
-    if before:
-        before(way)
-    count += way.do([*front, *first, *behind, *rest], PAGE)
-    both_told(way) if way.section == "A new member" else None
+    side_by_side, end = split(way.section)
+    here = next(place for place, (command, _) in enumerate(side_by_side) if command.startswith(begins))
+    count += way.do(side_by_side[:here], PAGE)
+    before(way)
+    count += way.do(side_by_side[here:], PAGE)
+    both_told(way)
     connections_wrong(way)
-    return count, archive_wrong(way), levels
+    count += way.do(end, PAGE)
+    return count, archive_wrong(way)
 
 
 def go(section, tool, vamuretu):
@@ -194,8 +199,7 @@ def go(section, tool, vamuretu):
             os.symlink(path, os.path.join(programs, name))
         way = Way(section, place, programs, WAYS[section][0])
         try:
-            count, took, _ = follow(way)
-            return way.wrong, count, took
+            return way.wrong, *follow(way)
         finally:
             way.shell.close()
 

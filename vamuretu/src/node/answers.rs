@@ -216,7 +216,7 @@ pub struct Status {
     pub newest_run: i64,
     /// Counts of runs since it was started.
     pub runs: Runs,
-    /// How many sets of keys are behind that of the newest run, which is the mark at a start.
+    /// How many sets of keys are behind that of the newest run.
     pub sets_left: i64,
     /// Whether it begins no run any more.
     pub draining: bool,
