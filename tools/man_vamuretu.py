@@ -26,7 +26,7 @@ FILES = [("/etc/vamuretu/NAME.toml", "The configuration of a node, which the uni
 FILES += [("/etc/vamuretu/watch.toml", "That of a watcher, which the unit vamuretu-watch reads.")]
 FILES += [("/var/lib/vamuretu, /var/lib/vamuretu-watch", "What the units may write: state, mark and spool; the archive.")]
 FILES += [("/usr/share/doc/vamuretu/examples/four", "Configurations of a system of four.")]
-SEE = "sm_tool(1), systemctl(1); SYSTEM.md, NODES.md, REFERENCE.md and ARCHIVE.md in /usr/share/doc/vamuretu/docs"
+SEE = "sm_tool(1), systemctl(1); SYSTEM.md, LIFE.md, NODES.md, REFERENCE.md and ARCHIVE.md in /usr/share/doc/vamuretu/docs"
 
 
 class Command(NamedTuple):

@@ -35,7 +35,7 @@ LIBRARIES += ["bindings", "watching", "archives", "fuzzing", "controllers", "han
 # that are no free ones, and times that are compared or bounded.
 ALONE = {
     "devices": "memory", "many_files": "times", "load": "times", "engines": "ports", "obeying": "clock", "datagrams": "clock",
-    "shown": "clock", "system": "clock", "life": "clock", "watching": "clock", "controllers": "clock", "handed_out": "clock",
+    "shown": "clock", "power": "clock", "system": "clock", "life": "clock", "watching": "clock", "controllers": "clock", "handed_out": "clock",
     "soaking": "clock", "attacks": "clock", "units": "clock", "page": "times", "release": "clock", "fuzzing": "times",
 }
 # So many of the slowest subjects are named.

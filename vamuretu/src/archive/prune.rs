@@ -22,13 +22,22 @@ pub struct Prune {
     keep: u32,
 }
 
-/// The path of the bundle of a run that goes: one that a watcher has judged as agreed with nobody convicted, below the first run
-/// that stays. The path has to be that by which a watcher stores this bundle.
+/// Whether the files of a run go, as a watcher has judged it: below the first run that stays, agreed, and with nobody convicted.
+fn goes(number: u32, first: u32, verdict: Option<&str>, convicted: usize) -> bool {
+    number < first && verdict == Some("agreed") && convicted == 0
+}
+
+/// The path of the bundle of a row, if its files go. It has to be that by which a watcher stores this bundle.
 fn bundle_of(row: &Kept, first: u32) -> Option<String> {
-    let number = row.number.filter(|&number| number < first)?;
-    let is_plain = row.source == "watcher" && row.verdict.as_deref() == Some("agreed") && row.convicted.is_empty();
-    let path = bundle_path(number, row.input.as_deref()?);
-    (is_plain && row.path.as_deref() == Some(Path::new(&path))).then_some(path)
+    let number = row.number.filter(|_| row.source == "watcher")?;
+    let path = own_path(number, row.input.as_deref()?, row.path.as_deref()?)?;
+    goes(number, first, row.verdict.as_deref(), row.convicted.len()).then_some(path)
+}
+
+/// A path, if a watcher stores the bundle of this digest there.
+fn own_path(number: u32, sha256: &str, path: &Path) -> Option<String> {
+    let own = bundle_path(number, sha256);
+    (path == Path::new(&own)).then_some(own)
 }
 
 /// Takes a file away. Tells its bytes, or none if it is not there.
@@ -75,45 +84,20 @@ pub fn prune(words: &Prune) -> Result<String, End> {
 mod tests {
     use super::*;
 
-    /// The row of a run of a watcher.
-    fn row(number: u32, verdict: &str, convicted: &[&str]) -> Kept {
-        let sha256 = format!("{number:064x}");
-        Kept {
-            source: "watcher".into(),
-            number: Some(number),
-            run_id: None,
-            verdict: Some(verdict.into()),
-            value: None,
-            listed: vec![],
-            missing: vec![],
-            suspected: vec![],
-            equal_roots: vec![],
-            findings: vec![],
-            nodes: vec![],
-            convicted: convicted.iter().map(|&it| it.into()).collect(),
-            fault: None,
-            path: Some(bundle_path(number, &sha256).into()),
-            place: 0,
-            bytes: None,
-            modified: None,
-            sha256: None,
-            input: Some(sha256),
-            library: "1".into(),
-            program: None,
-            judged: 1,
-            gone: false,
-        }
+    #[test]
+    fn old_runs_go_that_agreed_and_convict_nobody() {
+        let agreed = Some("agreed");
+        assert!(goes(7, 1200, agreed, 0) && goes(1199, 1200, agreed, 0) && !goes(1200, 1200, agreed, 0));
+        assert!(![Some("no"), Some("explained"), Some("gap"), None].iter().any(|&verdict| goes(7, 1200, verdict, 0)));
+        assert!(!goes(7, 1200, agreed, 1));
     }
 
     #[test]
-    fn old_runs_go_that_agreed_and_convict_nobody() {
-        let goes = |row: Kept| bundle_of(&row, 1200).is_some();
-        assert!(goes(row(7, "agreed", &[])) && goes(row(1199, "agreed", &[])) && !goes(row(1200, "agreed", &[])));
-        assert!(["no", "explained", "gap"].iter().all(|verdict| !goes(row(7, verdict, &[]))));
-        assert!(!goes(row(7, "agreed", &["node 3 by K2"])));
-        assert!(!goes(Kept { source: "archive".into(), ..row(7, "agreed", &[]) }));
-        for path in ["../../etc/passwd", "0000000/8-00000000.bundle.zst"] {
-            assert!(!goes(Kept { path: Some(path.into()), ..row(7, "agreed", &[]) }), "{path}");
+    fn no_other_file_goes() {
+        let own = "0000001/1007-01234567.bundle.zst";
+        assert_eq!(own_path(1007, "0123456789", Path::new(own)).as_deref(), Some(own));
+        for path in ["../../etc/passwd", "/0000001/1007-01234567.bundle.zst", "0000001/1008-01234567.bundle.zst"] {
+            assert_eq!(own_path(1007, "0123456789", Path::new(path)), None, "{path}");
         }
     }
 
