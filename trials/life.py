@@ -24,7 +24,7 @@ from going_on import DOCUMENT, INSTALLED, SECTION, Shell, move_ports
 from programs import run
 from walk import shown
 
-PAGE, NEXT = "LIFE.md", "The next system"
+PAGE, NEXT, GROWS = "LIFE.md", "The next system", "What grows, and who deletes it"
 # What stands on the pages, and what stands here in its place.
 SHORTER = [("+ 10))000", "+ 7))000"), ("sleep 12", "sleep 9"), ("'1 hour'", "'20 seconds'")]
 # The runs of the newest that `archive prune` leaves here.
@@ -140,6 +140,7 @@ def archive_wrong(way):
     runs = sum(counted["verdicts"].get(it, 0) for it in ("agreed", "explained", "no"))
     took = sum(map(os.path.getsize, files)) / max(1, runs)
     way.holds(abs(took - BYTES_OF_RUN) < DIFFERS * BYTES_OF_RUN or way.section.endswith("convicted"), f"a run takes {took:.0f} bytes in the archive")
+    way.do(shown(PAGE, GROWS), PAGE)
     told = way.asked("archive", "prune", "watch.toml", f"--keep={KEEPS}")
     gone = {it for it in files if not os.path.exists(it)}
     newest = json.loads(told.wrote)["pruned"]["first"] if told.wrote else 0
