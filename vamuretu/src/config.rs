@@ -546,10 +546,8 @@ pub fn from_toml<T: DeserializeOwned>(path: &Path, text: &str) -> Result<T, End>
 }
 
 /// What is said of an address that is none, and what is said in its place.
-const NO_ADDRESS: [&str; 2] = [
-    "invalid socket address syntax",
-    "no address with a port, as 192.0.2.1:4700 (names of hosts are not looked up)",
-];
+const NO_ADDRESS: [&str; 2] =
+    ["invalid socket address syntax", "no address with a port, as 192.0.2.1:4700 (names of hosts are not looked up)"];
 
 /// What is wrong with a text. Of an unknown key `toml` tells the line where its table ends, and not that of the key.
 fn fault_of(path: &Path, text: &str, told: &str) -> End {

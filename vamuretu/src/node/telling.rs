@@ -248,7 +248,8 @@ mod tests {
         let mut both = from(&[6, 0], &tellings[0]);
         let missed = |of: u8, run| missed_line(&[of; 32], run, run).to_string();
         let told = |of, run| line(of, run).to_string();
-        let wanted = [told(0, 6), told(0, 7), told(1, 0), missed(2, 1), told(1, 2), told(0, 8), missed(1, 9), told(1, 3)];
+        let wanted =
+            [told(0, 6), told(0, 7), told(1, 0), missed(2, 1), told(1, 2), told(0, 8), missed(1, 9), told(1, 3)];
         assert_eq!(lines_of(&mut both, &sources, wanted.len()).await, wanted);
         tellings[1].tell_decided(4, line(1, 4));
         assert_eq!(lines_of(&mut both, &sources, 1).await, [told(1, 4)], "once");
