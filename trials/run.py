@@ -25,7 +25,7 @@ import traceback
 from programs import Hangs, commands_of, count_cores
 from tally import NoCase, Tally
 
-SUBJECTS = ["scripts", "worked", "walk", "campaigns", "pictures", "prefixes", "vectors", "second_answers", "identities", "differs"]
+SUBJECTS = ["scripts", "worked", "walk", "campaigns", "pictures", "prefixes", "vectors", "second_answers", "identities", "signatures", "differs"]
 SUBJECTS += ["json_texts", "costs", "refusals", "slips", "calls", "devices", "many_files", "load", "engines", "worlds", "embed"]
 SUBJECTS += ["nodes", "node_calls", "system_calls", "receipts", "obeying", "datagrams", "shown", "power", "system", "life", "complete"]
 SUBJECTS += ["bindings", "watching", "archives", "fuzzing", "controllers", "handed_out", "soaking", "attacks", "units", "page", "release"]
