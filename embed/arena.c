@@ -9,7 +9,11 @@
    most bytes that were taken at one time. */
 #include "sm_heap.h"
 #include <stdalign.h>
+#if __STDC_HOSTED__
 #include <string.h>
+#else
+void *memcpy(void *restrict to, const void *restrict from, size_t bytes);
+#endif
 
 #ifndef SM_ARENA_BYTES
 #define SM_ARENA_BYTES (16 * 20 * 1024)

@@ -9,7 +9,11 @@
 #include "sm_heap.h"
 #include <stdalign.h>
 #include <stdatomic.h>
+#if __STDC_HOSTED__
 #include <string.h>
+#else
+void *memcpy(void *restrict to, const void *restrict from, size_t bytes);
+#endif
 
 #ifndef SM_POOL_BYTES
 #define SM_POOL_BYTES (8 << 20)

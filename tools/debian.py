@@ -9,7 +9,7 @@ from version import short
 
 FIELDS = """Package: vamuretu
 Version: {version}
-Architecture: amd64
+Architecture: {architecture}
 Maintainer: Vamuretu maintainers <maintainers@users.noreply.vamuretu.example>
 Installed-Size: {kilobytes}
 Depends: {depends}
@@ -28,7 +28,7 @@ Description: signed Byzantine agreement that can be audited
 """
 # The package of each shared library that the program vamuretu may want. Those of glibc are one package.
 OF_LIBRARIES = {"libsqlite3.so.0": "libsqlite3-0", "libzstd.so.1": "libzstd1", "libgcc_s.so.1": "libgcc-s1"}
-OF_GLIBC = ("libc.so.6", "libm.so.6", "ld-linux-x86-64.so.2", "libpthread.so.0", "libdl.so.2", "librt.so.1")
+OF_GLIBC = ("libc.so.6", "libm.so.6", "ld-linux-x86-64.so.2", "ld-linux-aarch64.so.1", "libpthread.so.0", "libdl.so.2", "librt.so.1")
 # What dpkg starts for the program vamuretu. Nodes are not started again for a newer package, since each that is started again
 # counts as faulty in the runs that it misses. A purge leaves /etc/vamuretu, and what nodes and watchers have kept.
 SCRIPTS = {"postinst": """#!/bin/sh
@@ -137,11 +137,12 @@ def put_scripts(root):
         os.chmod(f"{root}/DEBIAN/{name}", 0o755)
 
 
-def put_control(root, tree, version, run):
+def put_control(root, tree, version, run, architecture):
     """The files of DEBIAN/."""
     files = [name for name in names_of(root) if not os.path.islink(f"{root}/{name}")]
     kilobytes = sum(-(-os.path.getsize(f"{root}/{name}") // 1024) for name in files)
-    write(f"{root}/DEBIAN/control", FIELDS.format(version=version, kilobytes=kilobytes, depends=depends(tree, run)).encode())
+    told = {"version": version, "architecture": architecture, "kilobytes": kilobytes, "depends": depends(tree, run)}
+    write(f"{root}/DEBIAN/control", FIELDS.format(**told).encode())
     sums = (f"{hashlib.md5(read(f'{root}/{name}')).hexdigest()}  {name}\n" for name in files)
     write(f"{root}/DEBIAN/md5sums", "".join(sums).encode())
     least = version.partition("+")[0]
@@ -150,15 +151,15 @@ def put_control(root, tree, version, run):
     write(f"{root}/DEBIAN/triggers", b"activate-noawait ldconfig\n")
 
 
-def package(tree, scratch, version, seconds, run):
+def package(tree, scratch, version, seconds, run, target):
     """The bytes of the package by its name."""
-    root, made = f"{scratch}/root", f"vamuretu_{version}_amd64.deb"
+    root, made = f"{scratch}/root", f"vamuretu_{version}_{target.debian}.deb"
     run("sh", f"{tree}/install.sh", "PREFIX=/usr", f"DESTDIR={root}")
     # dpkg takes files away itself.
     os.remove(f"{root}/usr/share/vamuretu/install.sh")
     os.remove(f"{root}/usr/share/vamuretu/files")
     put_documents(root, tree, version, seconds)
-    put_control(root, tree, version, run)
+    put_control(root, tree, version, run, target.debian)
     if os.path.exists(f"{tree}/bin/vamuretu"):
         put_scripts(root)
     for at, folders, names in os.walk(root):

@@ -3,10 +3,11 @@
 
 The archive has what git has of the documents, the examples and the reference, and what was proved and built: out/sm_tool,
 out/libsm_embed.a, out/libsm_node.a, and where they are there those for processors with AVX2, as out/sm_tool-v3, and the page
-out/audit.html. tools/proved.py says whether they were proved from the sources that are checked out. The compiler makes the heap
-and the shared libraries, which nothing proves. Where out/vamuretu is there, the archive has this program with its units for
-systemd, and out/vamuretu-v3 if that is there too; tools/node_program.py says whether it was built from the sources and over the libraries. Otherwise PROVED says that it is
-left out. The archive is called by the version if the commit is tagged by it, with a v in front, and otherwise by the version and
+out/audit.html. tools/proved.py says whether they were proved from the sources that are checked out, and for which processors. The
+compiler makes the heap and the shared libraries, which nothing proves. Where out/vamuretu is there, the archive has this program
+with its units for systemd, and out/vamuretu-v3 if that is there too; tools/node_program.py says whether it was built from the
+sources and over the libraries. Otherwise PROVED says that it is left out. For another target (tools/targets.py) the files are those
+of its folder, and the compiler is the cross compiler. The archive is called by the version if the commit is tagged by it, with a v in front, and otherwise by the version and
 the commit. A commit with this tag whose list of changes begins with "Unreleased" is refused.
 Dates are that of the commit, or SOURCE_DATE_EPOCH; owners, modes and the order are fixed.
 """
@@ -29,9 +30,9 @@ import node_program
 import proved
 from debian import read, write
 from man3 import FUNCTION, HEADERS, SHARED
+from targets import OWN, TARGETS, machine_of, target_of
 from version import TOP, UNRELEASED, is_unreleased, short, version
 
-OUT = os.path.join(TOP, "out")
 # What was built, with the crate that it is of and its place in the archive.
 BUILT = [("sm_tool", "sm_tool", "bin/sm_tool"), ("libsm_embed.a", "sm_embed", "lib/libsm_embed.a")]
 BUILT += [("libsm_node.a", "sm_node", "lib/libsm_node.a")]
@@ -39,6 +40,8 @@ PAGE = ("audit.html", "sm_embed", "page/audit.html")
 # What is there for processors with AVX2.
 LEVEL_3 = [("sm_tool-v3", "sm_tool", "bin/sm_tool-v3"), ("libsm_embed-v3.a", "sm_embed", "lib/libsm_embed-v3.a")]
 LEVEL_3 += [("libsm_node-v3.a", "sm_node", "lib/libsm_node-v3.a")]
+# The level of those processors, by the name of the toolchain.
+LEVEL = "x86-64-v3"
 # The program that goes on, which nothing proves, with the manual page of it alone, and where systemd finds its units and users.
 NODES, OF_NODES, UNITS, USERS = "bin/vamuretu", "vamuretu.1", "lib/systemd/system", "lib/sysusers.d"
 # Over which of the archives each of its programs is built.
@@ -51,7 +54,6 @@ LEFT_OUT = ("embed/page/", "embed/vamuretu-config", "reference/.")
 READS, READ = b'. "$here/tools/level_3.sh"\n', "tools/level_3.sh"
 COMPILED = ["-std=c11", "-O2", "-fPIC", "-Wall", "-Wextra", "-Werror"]
 LINKED = ["-shared", "-s", "-Wl,--build-id=none", "-Wl,-z,relro,-z,now"]
-X86_64 = 62
 
 
 class Refused(Exception):
@@ -87,25 +89,42 @@ def name_of(named):
     return version() if is_tagged else f"{version()}+{named[:12]}"
 
 
-def nodes():
+def nodes(target):
     """The programs that go on which are there: none, that for any processor, or both."""
-    return [name for name in OVER if all(os.path.exists(os.path.join(OUT, it)) for it in ("vamuretu", name))]
+    return [name for name in OVER if all(os.path.exists(target.path(it)) for it in ("vamuretu", name))]
 
 
-def look_over():
-    """Refuses what is missing, or was not proved from the sources of the checkout. Returns what is there."""
-    there = [*BUILT, *(it for it in [*LEVEL_3, PAGE] if os.path.exists(os.path.join(OUT, it[0])))]
-    for name, crate, _ in there:
-        wrong = proved.look(TOP, os.path.join(OUT, name), crate)
-        if wrong:
-            raise Refused(f"{wrong.replace(TOP + '/', '')}; ./test proves and builds all of it")
-    wrong = node_program.look(TOP, OUT) if nodes() else None
+def may_lack(target):
+    """What an archive is made without, if it is not there. The page is for browsers, and the same for all processors."""
+    return [*(LEVEL_3 if target is OWN else []), PAGE]
+
+
+def path_of(target, file):
+    """Where a file of what was built lies."""
+    return (OWN if file == PAGE else target).path(file[0])
+
+
+def wrong_with(target, file):
+    """What is wrong with a file of what was built, in one line, or None."""
+    path, level = path_of(target, file), LEVEL if file in LEVEL_3 else ""
+    wrong = proved.look(TOP, path, file[1], (OWN if file == PAGE else target).verdict(level))
     if wrong:
-        raise Refused(f"{wrong.replace(TOP + '/', '')}; tools/node_program.py builds it")
-    for name, crate, _ in there:
-        program = read(os.path.join(OUT, name)) if crate == "sm_tool" else b""
-        if program and (program[:4] != b"\x7fELF" or int.from_bytes(program[18:20], "little") != X86_64):
-            raise Refused(f"out/{name} is no program for x86-64")
+        return f"{wrong}; ./test{'' if target is OWN or file == PAGE else f' --{target.processor}'} proves and builds all of it"
+    is_other = file[1] == "sm_tool" and machine_of(read(path)) != target.machine
+    return f"{path} is no program for {target.processor}" if is_other else None
+
+
+def look_over(target):
+    """Refuses what is missing, or was not proved from the sources of the checkout for the target. Returns what is there."""
+    there = [*BUILT, *(it for it in may_lack(target) if os.path.exists(path_of(target, it)))]
+    wrong = next(filter(None, (wrong_with(target, it) for it in there)), None)
+    if wrong is None and nodes(target):
+        # The completions are written by the program for this machine, which is of the same sources.
+        folders = dict.fromkeys(os.path.dirname(it.path("")) for it in (OWN, target))
+        said = next(filter(None, (node_program.look(TOP, it) for it in folders)), None)
+        wrong = said and f"{said}; tools/node_program.py builds it"
+    if wrong:
+        raise Refused(wrong.replace(TOP + "/", ""))
     return there
 
 
@@ -119,19 +138,19 @@ def kept_files():
     return found
 
 
-def put_pages(tree):
+def put_pages(tree, target):
     """The manual pages."""
     for name in sorted(os.listdir(os.path.join(TOP, "man"))):
         section = name.rsplit(".", 1)[1]
-        if name != OF_NODES or nodes():
+        if name != OF_NODES or nodes(target):
             write(f"{tree}/share/man/man{section}/{name}", read(os.path.join(TOP, "man", name)))
 
 
-def put_nodes(tree):
+def put_nodes(tree, target):
     """The programs that go on, their units and the users that they want, and what shells complete."""
-    program, units = os.path.join(OUT, "vamuretu"), os.path.join(TOP, "vamuretu", "systemd")
-    for name in nodes():
-        write(f"{tree}/bin/{name}", read(os.path.join(OUT, name)))
+    program, units = OWN.path("vamuretu"), os.path.join(TOP, "vamuretu", "systemd")
+    for name in nodes(target):
+        write(f"{tree}/bin/{name}", read(target.path(name)))
     for name in sorted(os.listdir(units)):
         write(f"{tree}/{UNITS if name.endswith('.service') else USERS}/{name}", read(os.path.join(units, name)))
     try:
@@ -142,13 +161,13 @@ def put_nodes(tree):
         write(f"{tree}/{name}", text.encode())
 
 
-def put_libraries(tree):
+def put_libraries(tree, target):
     """The heap, and the shared libraries, each with its own heap and with the functions of its header alone to be seen."""
     with tempfile.TemporaryDirectory() as scratch:
         for name in ("heap.c", "sm_heap.h"):
             shutil.copy(os.path.join(TOP, "embed", name), scratch)
-        run("cc", *COMPILED, "-c", "heap.c", "-o", "heap.o", cwd=scratch)
-        run("ar", "rcsD", "heap.a", "heap.o", cwd=scratch)
+        run(target.cc(), *COMPILED, "-c", "heap.c", "-o", "heap.o", cwd=scratch)
+        run(target.tool("ar"), "rcsD", "heap.a", "heap.o", cwd=scratch)
         write(f"{tree}/lib/libsm_embed_heap.a", read(f"{scratch}/heap.a"))
         for name in SHARED:
             write(f"{tree}/include/{name}.h", read(os.path.join(TOP, "embed", f"{name}.h")))
@@ -160,7 +179,7 @@ def put_libraries(tree):
             shutil.copy(f"{tree}/lib/lib{name}.a", f"{scratch}/whole.a")
             soname = f"lib{name}.so.{short(version())}"
             whole = ["-Wl,--whole-archive", "whole.a", "-Wl,--no-whole-archive", "-Wl,--version-script=seen"]
-            run("cc", *LINKED, f"-Wl,-soname,{soname}", "heap.o", *whole, "-o", "shared", cwd=scratch)
+            run(target.cc(), *LINKED, f"-Wl,-soname,{soname}", "heap.o", *whole, "-o", "shared", cwd=scratch)
             write(f"{tree}/lib/{shared}", read(f"{scratch}/shared"))
             os.symlink(shared, f"{tree}/lib/{soname}")
             os.symlink(soname, f"{tree}/lib/lib{name}.so")
@@ -182,57 +201,62 @@ def put_packages(tree):
     write(f"{tree}/lib/cmake/vamuretu/vamuretu-config-version.cmake", of_version.encode())
 
 
-def glibc_of(tree):
+def glibc_of(tree, target):
     """The oldest glibc that has all that the program and the shared libraries ask for."""
     files = [f"{tree}/bin/sm_tool", *(f"{tree}/lib/lib{name}.so.{version()}" for name in HEADERS)]
-    files += [f"{tree}/bin/{name}" for name in nodes()]
+    files += [f"{tree}/bin/{name}" for name in nodes(target)]
     asked = (it for file in files for it in re.findall(rb"GLIBC_(\d+)\.(\d+)", read(file)))
     return ".".join(map(str, max((int(it[0]), int(it[1])) for it in asked)))
 
 
-def proved_text(tree, named, seconds, built):
+def proved_text(tree, target, named, seconds, built):
     """What PROVED says."""
-    told = {place: proved.kept(os.path.join(OUT, name)) for name, _, place in built}
+    told = {it[2]: proved.kept(path_of(target, it)) for it in built}
     kits = {it["kit"] for it in told.values()}
     if len(kits) > 1:
         raise Refused("what was built is of several kits")
-    lines = [f"vamuretu {name_of(named)} x86_64-linux", f"commit {named}"]
+    lines = [f"vamuretu {name_of(named)} {target.processor}-linux", f"commit {named}"]
     lines += [f"date {time.strftime('%Y-%m-%dT%H:%M:%SZ', time.gmtime(seconds))}", f"kit {kits.pop()}"]
-    lines += [f"glibc {glibc_of(tree)} or newer", f"unproved, made by {run('cc', '--version').splitlines()[0]}:"]
+    lines += [f"glibc {glibc_of(tree, target)} or newer"]
+    lines += [f"unproved, made by {run(target.cc(), '--version').splitlines()[0]}:"]
     lines += ["  lib/libsm_embed_heap.a", *(f"  lib/lib{name}.so.{version()}" for name in HEADERS)]
     for place, of in told.items():
         lines += ["", place, f"  sha256 {of['digest']}", f"  sources {of['sources']}", f"  gate {of['gate']}"]
+        lines += [f"  verdict {of['verdict']}"]
+        if place == "bin/sm_tool" and target is not OWN:
+            lines += ["  unproved is the C that it is linked with: docs/ASSURANCE.md"]
     if PAGE in built:
         lines += ["  unproved is the step that compiles it for the browser: docs/PAGE.md"]
-    lines += [line for name in nodes() for line in lines_of(name)]
-    absent = [it[2] for it in [*LEVEL_3, PAGE] if it not in built] + [f"bin/{it}" for it in OVER if it not in nodes()]
+    lines += [line for name in nodes(target) for line in lines_of(name, target)]
+    programs = OVER if target is OWN else ["vamuretu"]
+    absent = [it[2] for it in may_lack(target) if it not in built] + [f"bin/{it}" for it in programs if it not in nodes(target)]
     lines += [line for it in absent for line in ("", f"{it} is not here: it was not made")]
     return "\n".join(lines) + "\n"
 
 
-def lines_of(name):
+def lines_of(name, target):
     """What PROVED says of a program that goes on."""
-    told = node_program.kept(os.path.join(OUT, name))
+    told = node_program.kept(target.path(name))
     lines = ["", f"bin/{name}", f"  sha256 {told['digest']}", f"  sources {told['sources']}"]
     return [*lines, f"  unproved, made by {told['compiler']} over {OVER[name]}"]
 
 
-def make_tree(tree):
+def make_tree(tree, target):
     """Puts all that the archive has to a folder. Returns by what the archive is called, and the date in seconds."""
     named, seconds = commit()
-    built = look_over()
+    built = look_over(target)
     for name in kept_files():
         write(f"{tree}/{name}", read(os.path.join(TOP, name)).replace(READS, read(os.path.join(TOP, READ))))
-    for name, _, place in built:
-        write(f"{tree}/{place}", read(os.path.join(OUT, name)))
-    put_pages(tree)
+    for it in built:
+        write(f"{tree}/{it[2]}", read(path_of(target, it)))
+    put_pages(tree, target)
     for name, text in completions.files().items():
         write(f"{tree}/{name}", text.encode())
-    if nodes():
-        put_nodes(tree)
-    put_libraries(tree)
+    if nodes(target):
+        put_nodes(tree, target)
+    put_libraries(tree, target)
     put_packages(tree)
-    write(f"{tree}/PROVED", proved_text(tree, named, seconds, built).encode())
+    write(f"{tree}/PROVED", proved_text(tree, target, named, seconds, built).encode())
     os.symlink("bin/sm_tool", f"{tree}/sm_tool")
     names = [name for name in names_of(tree) if not os.path.islink(f"{tree}/{name}")]
     sums = (f"{hashlib.sha256(read(f'{tree}/{name}')).hexdigest()}  {name}\n" for name in names)
@@ -271,30 +295,39 @@ def pack(tree, folder, seconds):
     return packed.getvalue()
 
 
-def make_archive(with_package):
+def make_archive(target, with_package):
     """Makes the archive, and the package where it is wanted."""
     with tempfile.TemporaryDirectory() as scratch:
         tree = f"{scratch}/tree"
-        called, seconds = make_tree(tree)
-        folder = f"vamuretu-{called}-x86_64-linux"
+        called, seconds = make_tree(tree, target)
+        folder = f"vamuretu-{called}-{target.processor}-linux"
         made = {f"{folder}.tar.gz": pack(tree, folder, seconds)}
         if with_package:
-            made |= debian.package(tree, scratch, called, seconds, run)
+            made |= debian.package(tree, scratch, called, seconds, run, target)
     for name, data in made.items():
-        write(os.path.join(OUT, name), data)
+        write(OWN.path(name), data)
         print(f"{hashlib.sha256(data).hexdigest()}  out/{name}")
 
 
+def words_of(words):
+    """What the words ask for: the target, whether a package is wanted, and the folder of --tree; or None."""
+    target, names = OWN, " | ".join(it.processor for it in TARGETS)
+    if "--target" in words[:-1]:
+        at = words.index("--target")
+        target, words = target_of(words[at + 1]), [*words[:at], *words[at + 2 :]]
+    if target is None or words not in ([], ["--deb"]) and not (len(words) == 2 and words[0] == "--tree"):
+        sys.exit(f"usage: ./dist [--deb | --tree FOLDER] [--target {names}]")
+    return target, words == ["--deb"], words[1] if len(words) == 2 else None
+
+
 def main():
-    words = sys.argv[1:]
+    target, with_package, folder = words_of(sys.argv[1:])
     try:
-        if words in ([], ["--deb"]):
-            make_archive(bool(words))
-        elif len(words) == 2 and words[0] == "--tree":
-            os.mkdir(words[1])
-            make_tree(words[1])
+        if folder:
+            os.mkdir(folder)
+            make_tree(folder, target)
         else:
-            return "usage: ./dist [--deb | --tree FOLDER]"
+            make_archive(target, with_package)
     except (Refused, OSError, LookupError) as why:
         return f"dist: {why}"
     return None

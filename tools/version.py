@@ -43,6 +43,7 @@ COPIES = [
     ("reference/help.json", '"sm_tool {version}"'),
     ("docs/EMBED.md", "`libsm_embed.so.{short}`"),
     ("INSTALL.md", "vamuretu-{version}-x86_64-linux", "vamuretu_{version}_amd64.deb", "find_package(vamuretu {short} "),
+    ("INSTALL.md", "vamuretu-{version}-aarch64-linux", "vamuretu_{version}_arm64.deb"),
     ("INSTALL.md", "`libsm_embed.so.{short}`"),
 ]
 # What is made with the version, tells versions of before, or has numbers of its own.

@@ -34,7 +34,7 @@ from version import UNRELEASED, short, version  # noqa: E402
 
 CRATES = {"sm_tool": "sm_tool", "sm_tool-v3": "sm_tool", "libsm_embed.a": "sm_embed", "libsm_node.a": "sm_node"}
 CRATES |= {"libsm_embed-v3.a": "sm_embed", "libsm_node-v3.a": "sm_node"}
-GATE = "1 passed, 0 failed"
+GATE, VERDICT = "1 passed, 0 failed", "logic=proved functions=1 sum=0"
 # The most that `systemd-analyze security` may find in a unit, of 100.
 EXPOSURE = 20
 SECONDS = "1795758936"
@@ -140,7 +140,8 @@ def clone(place, top, name, built):
 
 def record(top, kept, crate):
     """What tools/proved.py keeps, of a kit that need not be there."""
-    return f"digest {proved.digest(read(kept))}\nsources {proved.sources(top, crate)}\nkit a-kit logic 0\ngate {GATE}\n"
+    told = f"digest {proved.digest(read(kept))}\nsources {proved.sources(top, crate)}\nkit a-kit logic 0\ngate {GATE}\n"
+    return f"{told}verdict {VERDICT}{f' cpu={dist.LEVEL}' if '-v3' in kept else ''}\n"
 
 
 def digests(folder):
@@ -183,6 +184,9 @@ def try_refused(top, tally):
     write(node, whole + b" ")
     tally.hold("another file than was proved", refused(top, b"out/libsm_node.a is not the file that was proved"))
     write(node, whole)
+    for verdict in (b"cpu=x86-64-v3", b"target=aarch64-unknown-linux-gnu"):
+        write(f"{node}.proved", kept.replace(b"sum=0", verdict + b" sum=0"))
+        tally.hold(f"a file with {verdict.decode()}", refused(top, b"out/libsm_node.a was not proved for any processor of x86-64"))
     os.remove(f"{node}.proved")
     tally.hold("a file that nobody proved", refused(top, b"out/libsm_node.a is not known to be proved"))
     write(f"{node}.proved", kept)

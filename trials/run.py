@@ -28,15 +28,15 @@ from tally import NoCase, Tally
 SUBJECTS = ["scripts", "worked", "walk", "campaigns", "pictures", "prefixes", "vectors", "second_answers", "identities", "signatures", "differs"]
 SUBJECTS += ["json_texts", "costs", "refusals", "slips", "calls", "devices", "many_files", "load", "engines", "worlds", "embed"]
 SUBJECTS += ["nodes", "node_calls", "system_calls", "receipts", "obeying", "datagrams", "shown", "power", "system", "life", "complete"]
-SUBJECTS += ["bindings", "watching", "archives", "fuzzing", "controllers", "handed_out", "soaking", "attacks", "units", "page", "release"]
+SUBJECTS += ["bindings", "watching", "archives", "fuzzing", "controllers", "handed_out", "soaking", "attacks", "units", "page", "arm", "release"]
 LIBRARIES = ["worlds", "embed", "nodes", "node_calls", "system_calls", "receipts", "obeying", "datagrams", "shown", "power", "system", "life", "complete"]
-LIBRARIES += ["bindings", "watching", "archives", "fuzzing", "controllers", "handed_out", "soaking", "attacks", "units", "page", "release"]
+LIBRARIES += ["bindings", "watching", "archives", "fuzzing", "controllers", "handed_out", "soaking", "attacks", "units", "page", "arm", "release"]
 # What no other subject may go beside, and why: rounds of processes are parted by the clock, the most memory that there is, ports
 # that are no free ones, and times that are compared or bounded.
 ALONE = {
     "devices": "memory", "many_files": "times", "load": "times", "engines": "ports", "obeying": "clock", "datagrams": "clock",
     "shown": "clock", "power": "clock", "system": "clock", "life": "clock", "watching": "clock", "controllers": "clock", "handed_out": "clock",
-    "soaking": "clock", "attacks": "clock", "units": "clock", "page": "times", "release": "clock", "fuzzing": "times",
+    "soaking": "clock", "attacks": "clock", "units": "clock", "page": "times", "arm": "times", "release": "clock", "fuzzing": "times",
 }
 # So many of the slowest subjects are named.
 SLOWEST = 5
