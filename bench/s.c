@@ -1,1 +1,0 @@
-int g(int);__attribute__((noinline)) int f(int x){volatile int a[100];a[x]=1;return g(x)+a[x];} int sm_h(int x){return f(x+1)+g(x)+1;}
