@@ -1,7 +1,7 @@
 /* The library for C: what sm_tool does over bytes, for programs in C, C++ and whatever calls C.
 
    Link libsm_embed.a and heap.c, which a release has as libsm_embed_heap.a too. docs/EMBED.md says more. A general is
-   a node.
+   the place of a node in a run, and an order is the number of a value.
 
    A job is one call, which puts its answer into an sm_answer: a text, and of some calls also facts, which are structs.
    sm_answer_text and sm_answer_facts write these into room, as often as they are asked to,

@@ -2,7 +2,7 @@
 
    Link libsm_node.a and heap.c, which a release has as libsm_embed_heap.a too. libsm_embed.a may be linked beside them,
    as for agree.c. docs/NODES.md has a run call by call, the numbers to plan, and what becomes of lost, late and early
-   frames. A general is a node, and an order is a value.
+   frames. A general is the place of a node in a run, and an order is the number of a value.
 
    An sm_node is one pointer. The caller sets it to null before the first call, as by `sm_node node = {0};`, and does
    not read or write it afterwards. Null means that nothing is there. sm_node_keys makes the keys of a seed there, or

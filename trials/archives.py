@@ -50,8 +50,9 @@ NAMES = {2: "two words", 3: "$(touch ran)", 5: "line\nfeed", 6: "<script>alert(1
 KILLS = (0.02, 0.2, 0.4, 0.5, 0.6, 0.7, 0.8, 0.9)
 TABLES = {
     "files": "SELECT path, bytes, modified, sha256, input, said, answer, library, program, gone FROM files ORDER BY path",
-    "answers": "SELECT * FROM answers ORDER BY path, place",
-    "accused": "SELECT * FROM accused ORDER BY path, place, node",
+    "runs": "SELECT path, place, source, number, run_id, nodes, generals, traitors, verdict, decided, assumed_faulty, missing, suspected, "
+            "findings, equal_roots, library FROM runs ORDER BY path, place",
+    "convictions": "SELECT path, place, node, kind, other, root, evidence FROM convictions JOIN runs ON id = run ORDER BY path, place, node, kind",
     "admitted": "SELECT run_id, number FROM admitted ORDER BY run_id",
     "system": "SELECT * FROM system",
 }
@@ -280,8 +281,8 @@ def try_sources(index):
         same(f"files by {word}", (end.status, told["files"]), (1, len(set(files if word else plain))))
         if word:
             # The first index has what it answered of a file that is gone.
-            kept = [it for it in index.tables()["answers"] if os.path.exists(it[0])]
-            same(f"rows by {word}", other.tables()["answers"], kept)
+            kept = [it for it in index.tables()["runs"] if os.path.exists(it[0])]
+            same(f"rows by {word}", other.tables()["runs"], kept)
     try_audit_lines(index, [it for it in files if "\udcff" not in it])
 
 
@@ -353,7 +354,7 @@ def try_page(index):
     names = index.made.path("names.toml")
     liar = index.made.node_of(LIAR, 0)
     write(names, f'{liar} = "Pump <b>house</b>"\n'.encode())
-    text = page_of(index, index.path, "--names", names)
+    text = page_of(index, index.path, "--names", names, "--system", index.made.id)
     looked = Looked(text)
     same("what is fetched", looked.fetched, [])
     same("what runs", {it for it in ("script", "iframe", "object", "embed", "link", "form", "b") if looked.names[it]}, set())
@@ -383,6 +384,9 @@ def try_file_page(index):
             raise Wrong(f"a page lacks {part}: {told[:1000]}")
     if "No run id was given" not in Looked(page_of(index, liar)).text:
         raise Wrong("a page of a run that nobody named")
+    of_system = ["--system", "0" * 64]
+    for words, status in (([index.path, *of_system], 3), ([index.path, "--run", "0" * 64], 1), ([liar, *of_system], 1)):
+        same(f"no page on {words}", run(index.program, ["report", *words, "--out", made.path("none.html")]).status, status)
     of_other = ["--system", made.id, "--admissions", made.path("admissions", "0.admission")]
     for words in ([liar, "--run", "0" * 64], [made.bundle(CUT)], [liar, *of_other]):
         end = run(index.program, ["report", *words, "--out", made.path("none.html")])
@@ -394,18 +398,67 @@ def try_numberless(index):
     made, split, series = index.made, *(os.path.join(TOP, "examples", it) for it in ("split.bundle", "series.bundles"))
     index.ask("archive", "add", index.path, made.bundle(LIAR), split, series)
     lines = index.ask("archive", "ask", index.path, "convictions").wrote.decode().splitlines()
-    found = [json.loads(it) for it in index.ask("archive", "ask", index.path, "convictions", "--json").wrote.splitlines()]
+    found = json_lines(index, "convictions")
     same("the warning", (len(lines), lines[0].startswith("No admission shows these runs")), (len(found) + 1, True))
     same("nodes and generals", [(it["node"], it["general"]) for it in found], [(None, 0)] * 4)
     same("roots", sorted(collections.Counter(it["root"] for it in found).values()), [1, 1, 2])
     write(made.path("names.toml"), b'0 = "North pump"\n')
+    named = ["--names", made.path("names.toml")]
     for of in (index.path, split):
-        text = page_of(index, of, "--names", made.path("names.toml"))
-        if "North pump" in text:
-            raise Wrong(f"the page on {of} names a general that nobody knows")
+        end = run(index.program, ["report", of, *named, "--out", made.path("none.html")])
+        same(f"names of runs that nobody pinned: {of}", (end.status, os.path.exists(made.path("none.html"))), (2, False))
+    own = json.loads(run(made.program, ["audit", "--json", split]).wrote)["run"]
+    if "Signatures convict general 0 (North pump) by K2." not in Looked(page_of(index, split, *named, "--run", own)).text:
+        raise Wrong("a run whose id is given has no names")
     text = Looked(page_of(index, index.path)).text
-    same("how often the page counts runs", re.findall(r"the holder of the root \w{16}\.\.(?: in (\d) runs)?", text).count("2"), 1)
+    convicted = re.findall(r"Signatures convict the holder of the root (\w{16})\.\.: ((?:general 0 of the run \w{16}\.\.(?:, )?)+)\.", text)
+    same("a line for each root", sorted(it.count("general 0") for _, it in convicted), [1, 1, 2])
+    same("sums over runs that nobody pinned", [it for it in ("were judged", "Runs with the verdict") if it in text], [])
     same("what stands first", text.index("No admission shows these runs") < text.index("Signatures convict"), True)
+
+
+def try_few(index):
+    """A yes in which too few nodes are not assumed faulty speaks for nobody, and is not green."""
+    made, scenario = index.made, made_few(index.made)
+    lone = json.loads(run(made.program, ["audit", "--json", scenario]).wrote)
+    same("a yes of one node", (lone["verdict"], lone["faulty"]), ("agreed", [0, 1]))
+    index.ask("archive", "add", index.path, scenario)
+    for words in ([scenario, "--run", lone["run"]], [scenario], [index.path]):
+        text = page_of(index, *words)
+        said = "1 node is not assumed faulty; 3 are needed to speak for the correct nodes."
+        same(f"who speaks on {words}", (said in text, "verdict well" in text), (True, False))
+
+
+def made_few(made):
+    """The bundle of a liar alone, in whose run two nodes are assumed faulty, which are correct."""
+    with open(os.path.join(TOP, "examples", "split.scenario"), encoding="ascii") as file:
+        lines = file.read().replace("traitors 1", "traitors 2").splitlines()
+    text = "\n".join([*lines[: lines.index("script 0")], "script 2", "hide 1 0 1", "hide 2 1 1", "end", ""])
+    whole = run(made.program, ["run"], text.encode()).wrote
+    shown = [line.split() for line in run(made.program, ["show"], whole).wrote.decode().splitlines()]
+    at, length = next((int(it[4]), int(it[6])) for it in shown if it[:3] == ["log", "of", "2"])
+    # A header of three nodes with three edges has 109 bytes.
+    for name, data in (("header", whole[4:113]), ("2.log", whole[at : at + length])):
+        write(made.path("lone", name), data)
+    words = ["bundle", "--faulty=0,1", made.path("lone", "header"), f"2={made.path('lone', '2.log')}"]
+    write(made.path("lone", "lone.bundle"), run(made.program, words).wrote)
+    return made.path("lone", "lone.bundle")
+
+
+def made_convicting(made):
+    """Bundles and a campaign with a conviction of each kind, by the kinds that each has to convict by."""
+    with open(os.path.join(TOP, "examples", "split.scenario"), encoding="ascii") as file:
+        slotted = re.sub(r"(?m)^(seed .*)$", r"\1\nslot 0", file.read())
+    runs = [run(made.program, ["run"], text.encode()).wrote for text in (slotted, slotted.replace("choice 0", "choice 1"))]
+    write(made.path("kinds", "across.bundles"), b"SMC2\2" + b"".join(runs))
+    kinds = {made.path("kinds", "across.bundles"): {"K1", "K2"}}
+    cases = {"two_heads": {"K1"}, "stolen_key": {"K2", "K3"}, "ignored_bytes": {"K4"}}
+    for name, of in cases.items():
+        path = made.path("kinds", f"{name}.bundle.zst")
+        with open(os.path.join(TOP, "trials", "cases", f"{name}.scenario"), "rb") as file:
+            write(path, stored(run(made.program, ["run"], file.read()).wrote))
+        kinds[path] = of
+    return kinds
 
 
 def try_commands(index, tally):
@@ -417,11 +470,36 @@ def try_commands(index, tally):
     os.makedirs(made.path("tools"), exist_ok=True)
     os.symlink(os.path.abspath(made.program), made.path("tools", "sm_tool"))
     path = {**os.environ, "PATH": f"{made.path('tools')}:{os.environ['PATH']}"}
-    for of, count in ((index.path, 1), (made.bundle(LIAR), 1), (series, 1)):
-        lines = Looked(page_of(index, of)).text.splitlines()
-        told = [it for it in lines if it.startswith(("sm_tool ", "zstd -dc "))]
+    def check(of, count):
+        text = Looked(page_of(index, of)).text
+        told = [it for it in text.splitlines() if it.startswith(("sm_tool ", "zstd -dc "))]
         end = run("/bin/sh", ["-ec", "\n".join(told)], cwd=made.folder, env=path)
         same(f"the commands of the page on {of}", (len(told), end.status, end.wrote), (2 * count, 0, b"evidence holds\n" * count))
+        return text
+
+    for of, count in ((index.path, 1), (made.bundle(LIAR), 1), (series, 1)):
+        check(of, count)
+    convicting = made_convicting(made)
+    for of, kinds in convicting.items():
+        # A command for each node that the file convicts.
+        told = json.loads(run(made.program, ["audit", "--json"], unpacked_file(of)).wrote)
+        nodes = {it["general"] for run_of in told.get("runs", [told]) for it in run_of["convictions"]} | {it["general"] for it in told.get("across", [])}
+        text = check(of, len(nodes))
+        same(f"the kinds of {of}", {it for it in ("K1", "K2", "K3", "K4") if f"{it}: " in text}, kinds)
+    other = Index(index.program, made, "kinds")
+    other.ask("archive", "add", other.path, *convicting)
+    check(other.path, min(6, len({(it["root"], it["kind"]) for it in json_lines(other, "convictions")})))
+
+
+def json_lines(index, question):
+    return [json.loads(it) for it in index.ask("archive", "ask", index.path, question, "--json").wrote.splitlines()]
+
+
+def unpacked_file(path):
+    """What a file holds, which zstd has stored if its name says so."""
+    with open(path, "rb") as file:
+        data = file.read()
+    return run("zstd", ["-dc"], data).wrote if path.endswith(".zst") else data
 
 
 def try_signing(index, tally):
@@ -478,6 +556,7 @@ def try_all(program, made, other, tally, runs):
         try_page(whole)
         try_file_page(index)
         try_numberless(Index(program, made, "numberless"))
+        try_few(Index(program, made, "few"))
         try_commands(whole, tally)
         try_signing(index, tally)
         try_changes(index)

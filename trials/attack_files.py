@@ -29,8 +29,9 @@ HIDDEN = {"Cc", "Cf", "Zl", "Zp"}
 TURNS = 8
 RUN_ID, OTHER_ID = "1" * 64, "2" * 64
 # A row of a run of a watcher, in which values are changed.
-ROW = {"number": 7, "run_id": RUN_ID, "verdict": "no", "value": 1, "listed": "[]", "others": "[]", "missing": "[]", "path": None, "sha256": None,
-       "bytes": 10, "stored": 10, "library": "1.2.3", "judged": 0, "nodes": "[0,1,2,3]"}
+ROW = {"source": "watcher", "number": 7, "run_id": RUN_ID, "nodes": "[0,1,2,3]", "generals": 4, "traitors": 1, "verdict": "no", "decided": 1,
+       "assumed_faulty": "[]", "others": "[]", "missing": "[]", "suspected": "[]", "findings": "[]", "equal_roots": "[]", "path": None, "place": 0,
+       "library": "1.2.3", "judged": 0}
 ENDLESS = "CREATE VIEW runs AS WITH RECURSIVE it(number) AS (SELECT 1 UNION ALL SELECT number + 1 FROM it) SELECT number FROM it"
 
 CASES, case = collected()
@@ -172,17 +173,18 @@ def forms():
     html = "<script>alert(1)</script>"
     yield "shell", [row_of(run_id="0; touch ran #")], "table runs, row 1: run_id"
     yield "page", [("UPDATE system SET id = ?", (html,))], "table system, row 1: id"
-    yield "kind", [row_of(), ("INSERT INTO convictions VALUES (7, 2, ?, 'x')", (f"K1{html}",))], "table convictions, row 1: kind"
-    yield "up", [row_of(path="../../etc/passwd", sha256=RUN_ID)], "table runs, row 1: path"
-    yield "device", [row_of(path="/dev/zero", sha256=RUN_ID)], "table runs, row 1: path"
+    yield "kind", [row_of(), ("INSERT INTO convictions VALUES (1, 2, ?, 0, ?, 'x')", (f"K1{html}", RUN_ID))], "table convictions, row 1: kind"
+    yield "up", [row_of(path="../../etc/passwd")], "table runs, row 1: path"
+    yield "device", [row_of(path="/dev/zero")], "table runs, row 1: path"
     yield "word", [row_of(library="\u202e")], "table runs, row 1: library"
     for at, value in enumerate(("not json", '["a"]', "[1e99]", "[16]", "[" * 50_000)):
-        yield f"list{at}", [row_of(listed=value)], "table runs, row 1: listed"
+        yield f"list{at}", [row_of(assumed_faulty=value)], "table runs, row 1: assumed_faulty"
+    yield "finding", [row_of(findings=json.dumps([html]))], "table runs, row 1: findings"
     yield "far", [row_of(number=0), row_of(number=(1 << 32) - 1)], "table runs, row 2: number"
     yield "times", [row_of(judged=(1 << 63) - 1)], "table runs, row 1: judged"
-    yield "view", [("DROP TABLE runs",), (ENDLESS,)], "no index: the index runs_by"
-    yield "trigger", [("CREATE TRIGGER it AFTER UPDATE ON runs BEGIN DELETE FROM runs; END",)], "no index: the trigger it"
-    yield "more", [("CREATE VIRTUAL TABLE it USING fts5(x)",)], "no index: the table it"
+    yield "view", [("DROP TABLE runs",), (ENDLESS,)], "another shape: the index runs_by"
+    yield "trigger", [("CREATE TRIGGER it AFTER UPDATE ON runs BEGIN DELETE FROM runs; END",)], "another shape: the trigger it"
+    yield "more", [("CREATE VIRTUAL TABLE it USING fts5(x)",)], "another shape: the table it"
 
 
 @case("an index of a stranger: words of a shell and of a page, paths out of its folder, numbers at their ends, views in the place of tables")
@@ -232,13 +234,15 @@ def watchers(lab):
             wants(end.returncode == 0, f"{command}: {end}")
         sums = it.ask("archive", "export", index, "--digests").stdout.decode()
         wants(sums.count(".bundle.zst\n") == sums.count(".verdict.json\n") >= 4, f"the digests are {sums[:300]}")
-        order = "INSERT INTO convictions SELECT number, json_extract(nodes, '$[1]'), 'K2', '0/x.evidence' FROM runs WHERE path IS NOT NULL LIMIT 1"
-        orders = (order,), ("INSERT INTO stored SELECT path, number, ?, node, kind FROM convictions", (RUN_ID,))
+        order = "INSERT INTO convictions SELECT id, json_extract(nodes, '$[1]'), 'K2', 0, run_id, '0/x.evidence' FROM runs WHERE path IS NOT NULL LIMIT 1"
+        stored = "INSERT INTO files (path, source, holds, number, node, kind, bytes, sha256, library, judged) SELECT evidence, 'watcher', 'evidence', " \
+                 "number, node, kind, 1, ?, library, judged FROM convictions JOIN runs ON id = run"
+        orders = (order,), (stored, (RUN_ID,))
         text = Looked(it.page(it.copy(index, "liar.sqlite", *orders), "--folder", folder)).text
         number = re.search(r"Signatures convict node (\d+) in run \d+, where it is general 1\.", text)
         for part in (number and f"General 1 is node {number[1]}.", "gone"):
             wants(part and part in text, f"the page lacks {part}: {text[:600]}")
-        text = it.page(it.copy(index, "none.sqlite", ("DELETE FROM stored",)), "--folder", folder)
+        text = it.page(it.copy(index, "none.sqlite", ("UPDATE files SET sha256 = NULL",)), "--folder", folder)
         wants("commits to no file" in text and "ssh-keygen" not in text, "a page that commits to nothing asks to be signed")
         told = it.ask("archive", "add", "other.sqlite", folder).stderr.decode()
         wants("--system ID --admissions FOLDER" in told and "vamuretu watch makes it again" in told, f"the folder of a watcher is taken: {told}")

@@ -470,7 +470,7 @@ class Attacked(Made):
         told = self.judged(sorted(int(it) for it in names if it.isdigit()))
         found = {(number, (number + one["general"]) % self.plan.nodes) for number, it in told.items() for one in it["convictions"]}
         if os.path.exists(self.path("archive/index.sqlite")):
-            found |= set(self.asked("SELECT number, node FROM convictions"))
+            found |= set(self.asked("SELECT number, node FROM convictions JOIN runs ON id = run"))
         return found
 
 

@@ -23,11 +23,11 @@ SHORT = 500
 BELOW = 6
 # The tables of an index by which it is compared with one that was made anew. When something was judged or came is not among them.
 TABLES = {
-    "runs": "SELECT number, run_id, verdict, value, listed, others, missing, path, sha256, bytes, stored, library, nodes FROM runs",
+    "runs": "SELECT number, run_id, verdict, decided, assumed_faulty, others, missing, suspected, findings, path, library, nodes FROM runs",
     "logs": "SELECT number, node, sha256, bytes, decided FROM logs",
-    "convictions": "SELECT number, node, kind, path FROM convictions",
-    "stored": "SELECT number, path, sha256, node, kind FROM stored",
-    "changes": "SELECT number, verdict, value, listed, missing, path, sha256, library FROM changes",
+    "convictions": "SELECT number, node, kind, evidence FROM convictions JOIN runs ON id = run",
+    "files": "SELECT number, path, sha256, bytes, input, input_bytes, node, kind FROM files",
+    "changes": "SELECT number, verdict, decided, assumed_faulty, missing, path, sha256, library FROM changes",
 }
 
 CASES, case = collected()
@@ -70,7 +70,7 @@ def end_nodes(made, nodes=NODES):
 
 def digests_wrong(made):
     """The files that do not have the digests of the index, and bundles that it does not name."""
-    known = dict(made.asked("SELECT path, sha256 FROM stored"))
+    known = dict(made.asked("SELECT path, sha256 FROM files"))
     found = {}
     for at, _, names in os.walk(made.path("archive")):
         for name in names:

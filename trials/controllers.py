@@ -571,7 +571,7 @@ def watcher_wrong(made, tally, first, told):
     indexed = set(made.watcher.asked("SELECT DISTINCT number, node FROM logs"))
     if indexed != logs:
         return f"the watcher lacks {sorted(logs - indexed)}, and has {sorted(indexed - logs)} too"
-    rows = made.watcher.asked(f"SELECT number, verdict, value, missing FROM runs WHERE number < {last} ORDER BY number")
+    rows = made.watcher.asked(f"SELECT number, verdict, decided, missing FROM runs WHERE number < {last} ORDER BY number")
     gaps = {number for number, verdict, *_ in rows if verdict == "gap"}
     if not gaps >= set(range(GAPS)) or gaps != set(range(last)) - {number for number, _ in logs}:
         return f"the gaps {sorted(gaps)}"
@@ -581,7 +581,7 @@ def watcher_wrong(made, tally, first, told):
     convicted = made.watcher.asked("SELECT * FROM convictions")
     if convicted:
         return f"convicted: {convicted}"
-    verdicts = {number: (verdict, value) for number, verdict, value, _ in rows}
+    verdicts = {number: (verdict, order) for number, verdict, order, _ in rows}
     by_program = {number: (it["verdict"], it.get("order")) for number, (it, _) in told.items() if it["verdict"] == "agreed"}
     apart = {number: (verdicts[number], it) for number, it in by_program.items() if verdicts[number] != it}
     if apart:

@@ -309,7 +309,7 @@ def archive_wrong(soak, numbers):
     """What is wrong with the archive of the watcher."""
     asked = soak.made.watcher.asked
     logs = {(number, node) for number, node in asked("SELECT number, node FROM logs")}
-    runs = {number: (verdict, value) for number, verdict, value in asked("SELECT number, verdict, value FROM runs")}
+    runs = {number: (verdict, order) for number, verdict, order in asked("SELECT number, verdict, decided FROM runs")}
     stored = {(number, node.number) for node in soak.made.nodes for number in node.stored}
     kept, waiting = kept_logs(soak.made)
     wrong = [f"these logs lack: {sorted(stored - logs)[:9]}"] if stored - logs else []
@@ -335,7 +335,7 @@ def heard_both(soak, number):
 
 def convictions_wrong(soak):
     """What is wrong with the convictions: they are of the liar, in each run in which it was heard to lie."""
-    found = {(number, node) for number, node in soak.made.watcher.asked("SELECT number, node FROM convictions")}
+    found = {(number, node) for number, node in soak.made.watcher.asked("SELECT number, node FROM convictions JOIN runs ON id = run")}
     others = found - {(number, LYING) for number in soak.lied}
     free = [number for number in soak.lied if heard_both(soak, number) and (number, LYING) not in found]
     wrong = [f"convicted and no liar: {sorted(others)}"] if others else []

@@ -12,8 +12,10 @@ import concurrent.futures
 import contextlib
 import ctypes
 import ctypes.util
+import html
 import json
 import os
+import re
 import resource
 import shutil
 import signal
@@ -44,25 +46,29 @@ ORDERS = {"hold": 0, "close": 1, "open": 2}
 DEADLINES = {"one": 5000, "killed": 300}
 # General 0 of the run tells general 1 another order than the others.
 LIES = {0: ["make 1 1 1 0", "make 1 2 0 0", "make 1 3 0 0"]}
-# What is known of the runs: the verdict, the order, who is listed, other lists, and whose log is missing.
+# What is known of the runs: the verdict, the order, who is assumed faulty, other lists, and whose log is missing.
 KNOWN = {number: ("agreed", ORDER, [], [], []) for number in range(RUNS)}
-ALONE, LIAR, GAP, ONE, TWO, LATE, LOST = 1, 2, 3, 4, 5, 6, 7
+ALONE, LIAR, GAP, ONE, TWO, LATE, LOST, BOTH = 1, 2, 3, 4, 5, 6, 7, 9
 KNOWN[ALONE] = ("agreed", ORDER, [3], [], [3])
 KNOWN[LIAR] = ("agreed", 0, [2], [], [])
 KNOWN[GAP] = ("gap", None, [0, 1, 2, 3], [], [0, 1, 2, 3])
 KNOWN[ONE] = ("explained", None, [0, 2, 3], [], [0, 2, 3])
 KNOWN[TWO] = ("agreed", ORDER, [2], [], [])
 KNOWN[LOST] = ("agreed", ORDER, [0], [[1]], [])
+KNOWN[BOTH] = ("no", None, [0], [], [0])
 CONVICTED = {(LIAR, 2, "K2"), (TWO, 2, "K1")}
+# How many whole audits the judging of a run takes, where it is not one. A run with a liar is judged without it and with it, and its
+# evidence is one more. At a lost frame each end is tried. A late log has its run judged again.
+AUDITS = {GAP: 0, LIAR: 3, TWO: 3, LOST: 3, LATE: 2}
 ALARMS = {("conviction", LIAR, 2), ("conviction", TWO, 2), ("gap", GAP, None), ("explained", ONE, None), ("missing", ONE, None),
-          ("suspected", LOST, None)}
+          ("suspected", LOST, None), ("no", BOTH, None)}
 TABLES = {
-    "runs": "SELECT number, run_id, verdict, value, listed, others, missing, path, sha256, bytes, stored, library FROM runs "
-            f"WHERE number < {RUNS} ORDER BY number",
+    "runs": "SELECT number, run_id, nodes, generals, traitors, verdict, decided, assumed_faulty, others, missing, suspected, findings, path, "
+            f"library FROM runs WHERE number < {RUNS} ORDER BY number",
     "logs": f"SELECT number, node, sha256, bytes, decided FROM logs WHERE number < {RUNS} ORDER BY 1, 2, 3",
-    "convictions": "SELECT number, node, kind, path FROM convictions ORDER BY 1, 2, 3",
-    "stored": "SELECT number, path, sha256, node, kind FROM stored ORDER BY 1, 2",
-    "changes": "SELECT number, verdict, value, listed, missing, path, sha256, library FROM changes ORDER BY number, place",
+    "convictions": "SELECT number, node, kind, evidence, root FROM convictions JOIN runs ON id = run ORDER BY 1, 2, 3",
+    "files": "SELECT number, path, holds, sha256, bytes, input, input_bytes, node, kind FROM files ORDER BY 1, 2",
+    "changes": "SELECT number, verdict, decided, assumed_faulty, missing, path, sha256, library FROM changes ORDER BY number, place",
     "waiting": "SELECT number, node, sha256 FROM waiting",
 }
 ZSTD_MARK = bytes.fromhex("28b52ffd")
@@ -154,14 +160,14 @@ def logs_of_set(system, at):
     runs, third = {}, None
     for number in range(4 * at, 4 * at + 4):
         scripts = {LIAR: LIES, TWO: {1: ["twohead"]}}.get(number)
-        runs[number] = system.logs(number, scripts, (1, 2) if number == LOST else None)
+        runs[number] = system.logs(number, scripts, (1, 2) if number in (LOST, BOTH) else None)
     if TWO in runs:
         third = system.logs(TWO, {1: ["hide 1 0 1"]})[2][0]
     runs.pop(GAP, None)
     if ONE in runs:
         runs[ONE] = {1: runs[ONE][1]}
     pushed = [(number, node, log) for number in sorted(runs) for node, logs in sorted(runs[number].items()) for log in logs]
-    return [it for it in pushed if it[:2] != (ALONE, 3)], third
+    return [it for it in pushed if it[:2] not in ((ALONE, 3), (BOTH, 0))], third
 
 
 def all_logs(system):
@@ -367,7 +373,7 @@ def try_files(watcher, tool):
     """Each bundle, verdict and evidence is what the program says of it."""
     kept = os.path.join(watcher.folder, "kept")
     for number, run_id, path, sha256, size in watcher.asked(
-            f"SELECT number, run_id, path, sha256, bytes FROM runs WHERE number < {RUNS} AND path IS NOT NULL"):
+            f"SELECT runs.number, run_id, path, input, input_bytes FROM runs JOIN files USING (path) WHERE runs.number < {RUNS}"):
         with open(os.path.join(kept, path), "rb") as file:
             bundle = unpacked(file.read(), size)
         same(f"the digest of run {number}", digest(bundle).hex(), sha256)
@@ -376,11 +382,12 @@ def try_files(watcher, tool):
         admitted = ["--admission", watcher.system.admission_path(number), "--system", watcher.system.id.hex()]
         with open(os.path.join(kept, path.replace("bundle.zst", "verdict.json")), "rb") as file:
             same(f"the verdict on run {number}", file.read(), run(tool, ["audit", "--json", *admitted], bundle).wrote)
-    for number, node, _, path in watcher.asked(TABLES["convictions"]):
+    for number, node, _, path, root in watcher.asked(TABLES["convictions"]):
         own = watcher.system.header(number).run_id.hex()
         said = run(tool, ["evidence", "--json", "--run", own, os.path.join(kept, path)])
         general = [watcher.system.system.node_of(number, it) for it in range(NODES)].index(node)
-        same(f"evidence of run {number}", (said.status, json.loads(said.wrote)["accused"]), (0, general))
+        said_of = json.loads(said.wrote)
+        same(f"evidence of run {number}", (said.status, said_of["accused"], said_of["root"]), (0, general, root))
 
 
 def try_tidy(watcher):
@@ -391,7 +398,28 @@ def try_tidy(watcher):
     named = {*bundles, *(it.replace("bundle.zst", "verdict.json") for it in bundles)}
     again = watcher.asked("SELECT path FROM runs WHERE path IS NOT NULL AND number IN (SELECT number FROM changes)")
     named |= {it.replace("bundle.zst", "earlier.json") for it, in again}
-    same("files", sorted(found), sorted(named | {path for *_, path in watcher.asked(TABLES["convictions"])}))
+    same("files", sorted(found), sorted(named | {path for *_, path, _ in watcher.asked(TABLES["convictions"])}))
+
+
+def try_report(watcher):
+    """The report on the index has the findings of its runs with their generals, and the commands that check convictions run."""
+    page, index = os.path.join(watcher.folder, "page.html"), os.path.join(watcher.folder, "index.sqlite")
+    names = os.path.join(watcher.folder, "names.toml")
+    with open(names, "w", encoding="ascii") as file:
+        file.write('2 = "Pump"\n')
+    words = ["report", index, "--folder", os.path.join(watcher.folder, "kept"), "--out", page]
+    same("names without the id of the system", run(watcher.program, [*words, "--names", names]).status, 2)
+    end = run(watcher.program, [*words, "--names", names, "--system", watcher.system.id.hex()])
+    same("a report", (end.status, end.said), (0, b""))
+    with open(page, encoding="utf-8") as file:
+        text = html.unescape(re.sub(r"<[^>]*>", "\n", file.read()))
+    for part in (f"Signatures convict node 2 (Pump) in runs {LIAR}, {TWO}.", "the logs of generals 1 and 2", "node 2 (Pump), general 1 in this run",
+                 "1 node is not assumed faulty; 2 are needed to speak for the correct nodes."):
+        if part not in text:
+            raise Wrong(f"the report lacks {part}")
+    commands = [line for line in text.splitlines() if line.startswith("sm_tool ")]
+    told = run("/bin/sh", ["-ec", "\n".join(commands)], env=watcher.environment, cwd=watcher.folder)
+    same("the commands of the report", (len(commands), told.status, told.wrote), (2, 0, b"evidence holds\n" * 2))
 
 
 def try_one(watcher, tool, logs, refused):
@@ -408,8 +436,8 @@ def try_one(watcher, tool, logs, refused):
     same("the late log", watcher.push(3, by_node(late)[3]), 1)
     watcher.wait("the run with its log", f"SELECT missing FROM runs WHERE number = {LATE}", [("[]",)])
     watcher.is_done()
-    rows = watcher.asked(f"SELECT number, verdict, value, listed, others, missing FROM runs WHERE number < {RUNS}")
-    same("runs", {number: (verdict, value, *map(json.loads, lists)) for number, verdict, value, *lists in rows}, KNOWN)
+    rows = watcher.asked(f"SELECT number, verdict, decided, assumed_faulty, others, missing FROM runs WHERE number < {RUNS}")
+    same("runs", {number: (verdict, order, *map(json.loads, lists)) for number, verdict, order, *lists in rows}, KNOWN)
     same("changes", watcher.asked("SELECT number, verdict, missing FROM changes"), [(LATE, "agreed", "[3]")])
     same("convictions", {it[:3] for it in watcher.asked(TABLES["convictions"])}, CONVICTED)
     # Whether a node is absent is told of a run that is judged before all later ones, which hangs on when logs came.
@@ -418,6 +446,11 @@ def try_one(watcher, tool, logs, refused):
     same("alarms of what was refused", {it["node"] for it in watcher.alarms() if it["alarm"] == "refused"}, {0, 1, 2})
     metrics = watcher.metrics()
     same("gaps", (metrics['vamuretu_watch_runs_total{verdict="gap"}'], metrics["vamuretu_watch_next_run"]), (1, RUNS))
+    same("whole audits", metrics["vamuretu_watch_audits_total"], sum(AUDITS.get(number, 1) for number in range(RUNS)))
+    # Of the run that lacks a log too, generals 1 and 2 are nodes 2 and 3.
+    found = watcher.asked("SELECT number, findings, suspected FROM runs WHERE findings <> '[]'")
+    same("findings", found, [(BOTH, f'["N8 from 1 to 2 round 2 order {ORDER}"]', "[2,3]")])
+    try_report(watcher)
     try_files(watcher, tool)
     try_tidy(watcher)
     if watcher.most_memory() > 200_000:
@@ -451,8 +484,8 @@ def try_lost(watcher, wanted):
 
 def lasting(name, rows):
     """Rows but for what tells when a run was judged first: the files of evidence, by the logs that were there then."""
-    rows = [(*row[:3], None) for row in rows] if name == "convictions" else rows
-    return [] if name == "changes" else [row for row in rows if name != "stored" or not row[1].endswith((".evidence", ".earlier.json"))]
+    rows = [(*row[:3], None, *row[4:]) for row in rows] if name == "convictions" else rows
+    return [] if name == "changes" else [row for row in rows if name != "files" or not row[1].endswith((".evidence", ".earlier.json"))]
 
 
 def try_killed(watcher, logs, wanted):

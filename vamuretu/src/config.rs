@@ -26,8 +26,10 @@ pub type Orders = BTreeMap<String, u8>;
 const MOST_UNDER_WAY: u64 = 64;
 /// What Linux itself adds to its bound of the error.
 const MOST_DRIFT_PPM: u32 = 500;
-/// The orders that a header can have at most.
-const MOST_ORDERS: usize = 15;
+/// The most nodes, rounds and orders that a header can have.
+pub const MOST_NODES: usize = 16;
+const MOST_ROUNDS: u64 = 16;
+pub const MOST_ORDERS: u32 = 15;
 /// The most dots and brackets of a file: each can begin one table or array inside another.
 const MOST_NESTED: usize = 500;
 
@@ -409,7 +411,7 @@ impl Clock {
         if self.period_ms == 0 || self.round_ms < 4 {
             return Some("[clock]: a period has 1 ms at least, and a round 4".into());
         }
-        if u64::from(self.round_ms) * 16 > u64::from(self.period_ms) * MOST_UNDER_WAY {
+        if u64::from(self.round_ms) * MOST_ROUNDS > u64::from(self.period_ms) * MOST_UNDER_WAY {
             return Some(format!("[clock]: more than {MOST_UNDER_WAY} runs may be under way"));
         }
         if !(1..=MOST_DRIFT_PPM).contains(&self.drift_ppm) {
@@ -430,8 +432,10 @@ impl File for NodeFile {
 
     fn wrong(&self) -> Option<String> {
         let nodes = self.system.roots.len();
-        if !(2..=16).contains(&nodes) || self.node.number as usize >= nodes {
-            return Some("[system] roots, [node] number: there is one file for each of 2 to 16 nodes".into());
+        if !(2..=MOST_NODES).contains(&nodes) || self.node.number as usize >= nodes {
+            return Some(format!(
+                "[system] roots, [node] number: there is one file for each of 2 to {MOST_NODES} nodes"
+            ));
         }
         if let wrong @ Some(_) = wrong_numbers("[[peers]]", self.peers.iter().map(|peer| peer.number), nodes) {
             return wrong;
@@ -450,8 +454,10 @@ impl File for NodeFile {
 fn wrong_orders(orders: &Orders) -> Option<String> {
     let mut numbers: Vec<usize> = orders.values().map(|&order| order.into()).collect();
     numbers.sort_unstable();
-    if !(2..=MOST_ORDERS).contains(&numbers.len()) || numbers.iter().enumerate().any(|(place, &it)| place != it) {
-        return Some("[orders]: 2 to 15 names have the numbers from 0 on, each once".into());
+    if !(2..=MOST_ORDERS as usize).contains(&numbers.len())
+        || numbers.iter().enumerate().any(|(place, &it)| place != it)
+    {
+        return Some(format!("[orders]: 2 to {MOST_ORDERS} names have the numbers from 0 on, each once"));
     }
     let is_odd = |name: &String| name.is_empty() || name.contains(is_hidden);
     orders.keys().any(is_odd).then(|| "[orders]: a name has characters, and none that is hidden".into())
@@ -512,8 +518,8 @@ impl File for WatchFile {
 
     fn wrong(&self) -> Option<String> {
         let nodes = self.system.roots.len();
-        if !(2..=16).contains(&nodes) {
-            return Some("[system] roots: there is one file for each of 2 to 16 nodes".into());
+        if !(2..=MOST_NODES).contains(&nodes) {
+            return Some(format!("[system] roots: there is one file for each of 2 to {MOST_NODES} nodes"));
         }
         if self.key.is_some() && self.nodes.len() != nodes {
             return Some(format!("[[nodes]]: with [key] each of {nodes} nodes is there"));

@@ -64,6 +64,19 @@ pub fn refuse_links(path: &Path) -> Result<(), End> {
     }
 }
 
+/// Makes a folder, durably, and those above it.
+pub fn make_folder(path: &Path) -> io::Result<()> {
+    if path.is_dir() {
+        return Ok(());
+    }
+    if let Some(above) = path.parent().filter(|above| !above.as_os_str().is_empty()) {
+        make_folder(above)?;
+        fs::create_dir(path).or_else(|told| if path.is_dir() { Ok(()) } else { Err(told) })?;
+        return File::open(above)?.sync_all();
+    }
+    fs::create_dir(path)
+}
+
 /// Waits until the names in a folder are on the disk.
 pub fn sync_folder(folder: &Path) -> io::Result<()> {
     File::open(folder)?.sync_all()

@@ -18,6 +18,7 @@ mod doors;
 mod frames;
 #[cfg(any(test, feature = "fuzzing"))]
 mod fuzz;
+mod index;
 mod lines;
 mod metrics;
 mod node;
@@ -26,6 +27,7 @@ mod report;
 mod roots;
 mod systems;
 mod text;
+mod threads;
 mod watch;
 
 use std::fmt;

@@ -20,7 +20,7 @@ pub enum Fault {
     Node(NodeFault),
     /// Two nodes of a header have the same root, the lesser one first. No lesser pair has.
     EqualRoots(u32, u32),
-    /// Two nodes that are not held for faulty have no walk ([`NodeFault::U1`]), or none of at most d edges
+    /// Two nodes that are not assumed faulty have no walk ([`NodeFault::U1`]), or none of at most d edges
     /// ([`NodeFault::U2`]), the lesser one first. No lesser pair has.
     NoWalk(NodeFault, u32, u32),
     /// The call is not allowed here, or a number is out of its range: the calling program has a mistake, but for a frame
@@ -66,9 +66,9 @@ pub enum NodeFault {
     F6,
     F7,
     F8,
-    /// Two nodes that are not held for faulty have no walk: [`Fault::NoWalk`] names them.
+    /// Two nodes that are not assumed faulty have no walk: [`Fault::NoWalk`] names them.
     U1,
-    /// Two nodes that are not held for faulty have no walk of at most d edges: [`Fault::NoWalk`] names them.
+    /// Two nodes that are not assumed faulty have no walk of at most d edges: [`Fault::NoWalk`] names them.
     U2,
     B1,
     B2,
@@ -128,8 +128,8 @@ impl fmt::Display for NodeFault {
             EqualRoots => write!(to, "two generals have the same root"),
             OtherVersion => write!(to, "keys of another version than the header"),
             UsedSlot => write!(to, "a slot that the keys have served, or passed over"),
-            U1 => write!(to, "two generals that are not held for faulty have no walk"),
-            U2 => write!(to, "two generals that are not held for faulty have no walk of at most d edges"),
+            U1 => write!(to, "two generals that are not assumed faulty have no walk"),
+            U2 => write!(to, "two generals that are not assumed faulty have no walk of at most d edges"),
             LongLog => write!(to, "a log of 2^32 bytes or more"),
             named => write!(to, "fault {named:?}"),
         }

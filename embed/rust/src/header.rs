@@ -72,9 +72,13 @@ pub struct Numbers {
     pub choice: u8,
 }
 
-/// A header, as its bytes. Each header has one spelling, so two headers are the same if and only if their bytes are.
+/// A header, as its bytes, with its numbers. Each header has one spelling, so two headers are the same if and only if their
+/// bytes are.
 #[derive(Debug, Clone, PartialEq, Eq, Hash)]
-pub struct Header(Vec<u8>);
+pub struct Header {
+    bytes: Vec<u8>,
+    numbers: Numbers,
+}
 
 impl Header {
     /// The header of these numbers, edges in any order and direction, and roots in the order of their nodes (generals).
@@ -104,76 +108,75 @@ impl Header {
         });
         match Fault::of_node(status, fault) {
             Err(Fault::Node(NodeFault::EqualRoots)) => Err(Fault::EqualRoots(equal.first, equal.second)),
-            told => told.map(|()| Header(bytes)),
+            told => told.and_then(|()| Header::read(&bytes)),
         }
     }
 
     /// The header that bytes spell. Faults are H1 to H7, H9 to H11, or bytes that are left over.
     pub fn read(bytes: &[u8]) -> Result<Header, Fault> {
-        let mut numbers =
-            SmNumbers { version: 0, slot: 0, generals: 0, traitors: 0, diameter: 0, orders: 0, choice: 0 };
+        let mut told = SmNumbers { version: 0, slot: 0, generals: 0, traitors: 0, diameter: 0, orders: 0, choice: 0 };
         let mut fault = 0;
         // SAFETY: as in `new`.
-        let status = unsafe { raw::sm_node_header_numbers(bytes.as_ptr(), bytes.len(), &mut numbers, &mut fault) };
-        Fault::of_node(status, fault).map(|()| Header(bytes.to_vec()))
+        let status = unsafe { raw::sm_node_header_numbers(bytes.as_ptr(), bytes.len(), &mut told, &mut fault) };
+        Fault::of_node(status, fault)?;
+        let SmNumbers { version, slot, generals, traitors, diameter, orders, choice } = told;
+        let version = if version == 1 { Version::One } else { Version::Two };
+        let numbers = Numbers { version, slot, generals, traitors, diameter, orders, choice };
+        Ok(Header { bytes: bytes.to_vec(), numbers })
     }
 
     /// The bytes of the header.
     pub fn as_bytes(&self) -> &[u8] {
-        &self.0
+        &self.bytes
+    }
+
+    /// The numbers of the header.
+    pub fn numbers(&self) -> &Numbers {
+        &self.numbers
     }
 
     /// The run id, by which a file is known to be of this run.
     pub fn run_id(&self) -> Result<RunId, Fault> {
         let (mut run_id, mut fault) = ([0; 32], 0);
         // SAFETY: as in `new`.
-        let status = unsafe { raw::sm_node_run_id(self.0.as_ptr(), self.0.len(), run_id.as_mut_ptr(), &mut fault) };
+        let status =
+            unsafe { raw::sm_node_run_id(self.bytes.as_ptr(), self.bytes.len(), run_id.as_mut_ptr(), &mut fault) };
         Fault::of_node(status, fault).map(|()| run_id)
     }
 
     /// The version of the header.
     pub fn version(&self) -> Version {
-        if self.0[0] == 1 {
-            Version::One
-        } else {
-            Version::Two
-        }
-    }
-
-    /// The numbers of the header from that of its nodes on, and what is behind them: the number of edges, edges, roots.
-    fn parts(&self) -> (&[u8], &[u8]) {
-        let first = match self.version() {
-            Version::One => 1,
-            Version::Two => 2,
-        };
-        self.0[first..].split_at(5)
+        self.numbers.version
     }
 
     /// How many nodes (generals) there are. They are 0 to n - 1, and node 0 is the commander.
     pub fn generals(&self) -> u32 {
-        self.parts().0[0].into()
+        self.numbers.generals.into()
     }
 
     /// How many nodes (generals) may be faulty (traitors): m.
     pub fn traitors(&self) -> u32 {
-        self.parts().0[1].into()
+        self.numbers.traitors.into()
     }
 
     /// How many values (orders) there are: q.
     pub fn orders(&self) -> u32 {
-        self.parts().0[3].into()
+        self.numbers.orders.into()
     }
 
-    /// How many rounds a run has.
+    /// How many rounds a run has: m + d.
     pub fn rounds(&self) -> usize {
-        let numbers = self.parts().0;
-        usize::from(numbers[1]) + usize::from(numbers[2])
+        usize::from(self.numbers.traitors) + usize::from(self.numbers.diameter)
     }
 
-    /// The edges, ascending.
+    /// The edges, ascending. They stand behind the numbers, and behind how many they are.
     pub fn edges(&self) -> impl Iterator<Item = (u32, u32)> + '_ {
-        let rest = self.parts().1;
-        rest[1..].chunks_exact(2).take(rest[0].into()).map(|edge| (edge[0].into(), edge[1].into()))
+        let count = match self.version() {
+            Version::One => 6,
+            Version::Two => 7,
+        };
+        let edges = self.bytes[count + 1..].chunks_exact(2).take(self.bytes[count].into());
+        edges.map(|edge| (edge[0].into(), edge[1].into()))
     }
 
     /// The nodes (generals) that an edge joins to one.
@@ -187,6 +190,6 @@ impl Header {
 
     /// The most bytes of a frame of a node that follows the algorithm. A transport should refuse a longer one.
     pub fn longest_frame(&self) -> usize {
-        41 + usize::from(self.parts().0[3]) * (6 + self.version().signer() * self.rounds())
+        41 + usize::from(self.numbers.orders) * (6 + self.version().signer() * self.rounds())
     }
 }

@@ -1,5 +1,7 @@
 //! What `sm_tool` does over bytes.
 
+use std::sync::atomic::{AtomicU64, Ordering};
+
 use crate::raw::{self, Held, SmAnswer, SmOptions};
 use crate::states::SystemId;
 use crate::verdicts::{Judgement, Receipts, RunDecision};
@@ -7,13 +9,13 @@ use crate::Fault;
 
 /// The forms of an answer.
 pub(crate) const TEXT: u32 = 0;
-const JSON: u32 = 1;
+pub(crate) const JSON: u32 = 1;
 /// The number of the version that both archives tell, as `SM_VERSION_NUMBER` of `sm_status.h`.
 const VERSION_NUMBER: u32 = 2000;
 /// The line of an admission of another system than the one that is expected.
 const OTHER_SYSTEM: &[u8] = b"fault A11";
 /// What the bytes of a campaign begin with.
-const CAMPAIGN: &[u8] = b"SMC2";
+pub(crate) const CAMPAIGN: &[u8] = b"SMC2";
 
 /// An answer in words, which is a no or not.
 #[derive(Debug, Clone, PartialEq, Eq)]
@@ -142,6 +144,21 @@ pub(crate) fn asked(job: Asking, options: &SmOptions, input: &[u8]) -> Result<(b
     ended(Held::by(|answer| unsafe { job(input.as_ptr(), input.len(), options, answer) }))
 }
 
+/// How many whole audits were asked for.
+static AUDITS: AtomicU64 = AtomicU64::new(0);
+
+/// How many whole audits this process has asked for, in each of which the library verifies all signatures of an input: those of
+/// [`audit`], [`judge`], [`draw`], [`accuse`] and [`Judged`](crate::Judged), and of their like.
+pub fn audits() -> u64 {
+    AUDITS.load(Ordering::Relaxed)
+}
+
+/// Does a job on an input that audits all of it.
+pub(crate) fn audited(job: Asking, options: &SmOptions, input: &[u8]) -> Result<(bool, Held), Fault> {
+    AUDITS.fetch_add(1, Ordering::Relaxed);
+    asked(job, options, input)
+}
+
 /// The bytes that a job on a general and an input makes, if it makes any.
 fn bytes_of(job: Making, general: u32, options: &SmOptions, input: &[u8]) -> Result<Option<Vec<u8>>, Fault> {
     // SAFETY: as in `asked`.
@@ -168,18 +185,18 @@ pub fn audit(input: &[u8]) -> Result<Answer, Fault> {
 /// runs, [`Fault::OtherSystem`] for an admission of another system, and [`Fault::Misuse`] for more than four ids, or for an
 /// admission of no bytes.
 pub fn audit_of<'a>(runs: impl Into<Expected<'a>>, strict: bool, input: &[u8]) -> Result<Answer, Fault> {
-    asked(raw::sm_audit, &options(runs, strict, TEXT)?, input).map(in_words)
+    audited(raw::sm_audit, &options(runs, strict, TEXT)?, input).map(in_words)
 }
 
 /// The verdict on a bundle or a campaign of the runs that are expected, in its parts. `runs` is as of [`audit_of`].
 pub fn judge<'a>(runs: impl Into<Expected<'a>>, input: &[u8]) -> Result<Judgement, Fault> {
-    let (_, mut held) = asked(raw::sm_audit, &options(runs, false, TEXT)?, input)?;
+    let (_, mut held) = audited(raw::sm_audit, &options(runs, false, TEXT)?, input)?;
     Judgement::of(&held.facts(), input.starts_with(CAMPAIGN)).ok_or(Fault::Misuse)
 }
 
 /// The verdict as one line with a JSON object, as `sm_tool audit --json` writes it. `runs` is as of [`audit_of`].
 pub fn audit_json<'a>(runs: impl Into<Expected<'a>>, input: &[u8]) -> Result<String, Fault> {
-    asked(raw::sm_audit, &options(runs, false, JSON)?, input).map(|(_, mut held)| text_of(held.text()))
+    audited(raw::sm_audit, &options(runs, false, JSON)?, input).map(|(_, mut held)| text_of(held.text()))
 }
 
 /// The picture of a bundle or a campaign and of the verdict on it, an SVG text.
@@ -189,7 +206,7 @@ pub fn draw(input: &[u8]) -> Result<String, Fault> {
 
 /// The picture, as [`draw`], of the runs that are expected. Faults are those of [`audit_of`].
 pub fn draw_of<'a>(runs: impl Into<Expected<'a>>, input: &[u8]) -> Result<String, Fault> {
-    asked(raw::sm_draw, &options(runs, false, TEXT)?, input).map(|(_, mut held)| text_of(held.text()))
+    audited(raw::sm_draw, &options(runs, false, TEXT)?, input).map(|(_, mut held)| text_of(held.text()))
 }
 
 /// What the nodes (generals) decide in the run of a scenario's text, as `sm_tool decide` writes it.
@@ -234,6 +251,7 @@ pub fn accuse(general: u32, input: &[u8]) -> Result<Option<Vec<u8>>, Fault> {
 /// The evidence, as [`accuse`], of the runs that are expected, which are compared first. Faults are those of [`audit_of`]
 /// too.
 pub fn accuse_of<'a>(runs: impl Into<Expected<'a>>, general: u32, input: &[u8]) -> Result<Option<Vec<u8>>, Fault> {
+    AUDITS.fetch_add(1, Ordering::Relaxed);
     bytes_of(raw::sm_accuse, general, &options(runs, false, TEXT)?, input)
 }
 

@@ -264,7 +264,7 @@ impl FrameHead {
 pub struct Bundle(Vec<u8>);
 
 impl Bundle {
-    /// The bundle of a header, the nodes (generals) that are held for faulty, and the logs that were collected. A log
+    /// The bundle of a header, the nodes (generals) that are assumed faulty, and the logs that were collected. A log
     /// comes with the node that it is said to be of, ascending, and several may be of one node. The walks between the
     /// others are found: [`Fault::NoWalk`] if there is none of at most d edges between two of them. Other faults are B4,
     /// B7, B9, or a log that is too long. [`Fault::Misuse`] for a general above 15.
@@ -283,7 +283,7 @@ impl Bundle {
             .iter()
             .try_fold(0, |set, &general| if general < 16 { Ok(set | 1 << general) } else { Err(Fault::Misuse) })?;
         let of: Vec<SmLog> = logs.iter().map(|&(general, log)| SmLog { general, bytes: log.len() }).collect();
-        let whole: Vec<u8> = logs.iter().flat_map(|&(_, log)| log).copied().collect();
+        let whole = logs.iter().map(|it| it.1).collect::<Vec<_>>().concat();
         let (bytes, mut fault, mut apart) = (header.as_bytes(), 0, SmPair { first: 0, second: 0 });
         let room = bytes.len() + whole.len() + 8 + MOST_WALKS * WALK_BYTES + LOG_FRONT * logs.len();
         // SAFETY: the pointers are of pieces of memory of these lengths that do not overlap, and nobody else has the

@@ -160,7 +160,7 @@ pub enum Finding {
     },
     /// N10: two nodes (generals) that no walk joins.
     Pair(u32, u32),
-    /// N11: every node is held for faulty.
+    /// N11: every node is assumed faulty.
     Nobody,
 }
 
@@ -218,7 +218,7 @@ pub struct Across {
 pub enum Status {
     /// A conviction of this run names the node.
     Convicted,
-    /// The node is held for faulty.
+    /// The node is assumed faulty.
     Held,
     /// One of the findings N1 to N9 names the node.
     Suspected,
@@ -229,9 +229,9 @@ pub enum Status {
 /// What a verdict says.
 #[derive(Debug, Clone, PartialEq, Eq, Hash)]
 pub enum Said {
-    /// Nothing is found, and at most m nodes are held for faulty: the others decided this value (order).
+    /// Nothing is found, and at most m nodes are assumed faulty: the others decided this value (order).
     Agreed(u32),
-    /// Nothing is found, and more than m nodes are held for faulty. It promises no agreement.
+    /// Nothing is found, and more than m nodes are assumed faulty. It promises no agreement.
     Explained(Vec<Decision>),
     /// Something is found.
     No(Vec<Finding>),
@@ -246,7 +246,7 @@ pub struct Verdict {
     pub generals: u32,
     /// How many of them the run is planned for to be faulty: m.
     pub traitors: u32,
-    /// The nodes that are held for faulty, ascending: F.
+    /// The nodes that are assumed faulty, ascending: F.
     pub faulty: Vec<u32>,
     /// The status of each node.
     pub statuses: Vec<Status>,

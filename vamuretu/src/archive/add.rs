@@ -4,8 +4,9 @@ use std::collections::BTreeMap;
 use std::fs::File;
 use std::io::{self, BufReader};
 use std::path::{Path, PathBuf};
-use std::sync::mpsc::{sync_channel, Receiver, RecvTimeoutError};
-use std::sync::{Arc, Mutex};
+use std::sync::mpsc::{Receiver, RecvTimeoutError};
+use std::sync::Arc;
+use std::thread;
 use std::time::{Duration, Instant};
 
 use indicatif::{ProgressBar, ProgressStyle};
@@ -13,17 +14,20 @@ use sha2::{Digest, Sha256};
 use vamuretu::Fault;
 
 use super::files::{self, Listed, Names};
-use super::judged::{self, Admissions};
 use super::room::Rooms;
 use super::store::{Admission, Before, Judge, Outcome, Store};
 use crate::config::Id;
+use crate::index::judged::{self, Admissions};
 use crate::text::spelled;
+use crate::threads::{share, side_by_side};
 use crate::watch::judge::digest;
-use crate::End;
+use crate::{index, End};
 
 /// How many files, or how much time, one transaction has.
 const MOST_ROWS: usize = 64;
 const MOST_TIME: Duration = Duration::from_millis(100);
+/// What is said where a thread has failed.
+const THREAD: &str = "a thread has failed";
 /// What the name of an admission ends with, behind the number of a run of its set.
 const ADMISSION: &str = "admission";
 
@@ -78,7 +82,7 @@ fn this_judge() -> Result<Judge, End> {
 /// Adds files to an index.
 pub fn add(words: &Add) -> Result<Done, End> {
     let listed = list(words)?;
-    let _lock = crate::watch::lock(&words.index)?;
+    let _lock = index::lock(&words.index)?;
     let judge = this_judge()?;
     let mut store = Store::open(&words.index, words.system.as_ref())?;
     let is_new = admit(&mut store, &words.admissions)?;
@@ -174,7 +178,8 @@ fn read_admissions(paths: &[PathBuf], system: &Id) -> Result<Vec<Admission>, End
     }
     found.sort();
     let read = |path: PathBuf| std::fs::read(&path).map_err(End::file(&path)).map(|bytes| shown(path, bytes, system));
-    side_by_side(found, read).into_iter().collect()
+    let failed = |_| Err(End::failed(THREAD));
+    side_by_side(found, read).into_iter().map(|it| it.unwrap_or_else(failed)).collect()
 }
 
 /// The admissions of files and folders that hold, for an input that no index has.
@@ -248,6 +253,9 @@ fn tasks(listed: Listed, mut before: BTreeMap<PathBuf, Before>, read_all: bool) 
     listed.files.into_iter().filter_map(task).collect()
 }
 
+/// What threads answer.
+type Outcomes = Receiver<(usize, thread::Result<(Task, Outcome)>)>;
+
 /// What threads need.
 struct Work {
     judge: Judge,
@@ -258,38 +266,20 @@ struct Work {
 impl Work {
     /// Judges files by a thread for each core, and writes what is answered. Tells how many were judged.
     fn all(&self, store: &mut Store, tasks: Vec<Task>) -> Result<usize, End> {
-        let (count, bytes) = (tasks.len(), tasks.iter().map(|it| it.bytes).sum());
-        let bar = bar_of(bytes);
-        let (to_write, outcomes) = sync_channel(MOST_ROWS);
-        let tasks = Mutex::new(tasks.into_iter());
-        std::thread::scope(|scope| {
-            for _ in 0..threads().min(count) {
-                let (to_write, tasks) = (to_write.clone(), &tasks);
-                scope.spawn(move || {
-                    let next = || tasks.lock().unwrap_or_else(|told| told.into_inner()).next();
-                    while let Some(task) = next() {
-                        let outcome = self.one(&task);
-                        if to_write.send((task, outcome)).is_err() {
-                            return;
-                        }
-                    }
-                });
-            }
-            drop(to_write);
-            self.write(store, outcomes, count, &bar)
-        })
+        let (count, bar) = (tasks.len(), bar_of(tasks.iter().map(|it| it.bytes).sum()));
+        let act = |task: Task| {
+            let outcome = self.one(&task);
+            (task, outcome)
+        };
+        share(tasks, act, |outcomes| self.write(store, outcomes, count, &bar))
     }
 
     /// Writes what threads answer, a batch at a time.
-    fn write(
-        &self,
-        store: &mut Store,
-        outcomes: Receiver<(Task, Outcome)>,
-        count: usize,
-        bar: &ProgressBar,
-    ) -> Result<usize, End> {
+    fn write(&self, store: &mut Store, outcomes: Outcomes, count: usize, bar: &ProgressBar) -> Result<usize, End> {
         let (mut judged, mut seen) = (0, 0);
         while let Some(batch) = next_batch(&outcomes) {
+            let batch = batch.into_iter().map(|(_, it)| it).collect::<thread::Result<Vec<_>>>();
+            let batch = batch.map_err(|_| End::failed(THREAD))?;
             seen += batch.len();
             judged += batch.iter().filter(|(_, it)| matches!(it, Outcome::Judged { .. })).count();
             let bytes = batch.iter().map(|(task, _)| task.bytes).sum();
@@ -298,10 +288,7 @@ impl Work {
             bar.set_message(format!("{seen} of {count} files"));
         }
         bar.finish_and_clear();
-        match seen == count {
-            true => Ok(judged),
-            false => Err(End::failed("a thread has failed")),
-        }
+        Ok(judged)
     }
 
     /// What becomes of a file.
@@ -342,28 +329,6 @@ fn next_batch<T>(outcomes: &Receiver<T>) -> Option<Vec<T>> {
         }
     }
     Some(batch)
-}
-
-/// How many threads judge at a time: as many as there are cores.
-fn threads() -> usize {
-    std::thread::available_parallelism().map_or(1, |it| it.get())
-}
-
-/// Does something for each of several values, by a thread for each core, and tells the results in their order.
-fn side_by_side<T: Send, R: Send>(values: Vec<T>, act: impl Fn(T) -> R + Sync) -> Vec<R> {
-    let each = values.len().div_ceil(threads()).max(1);
-    let mut values = values.into_iter();
-    std::thread::scope(|scope| {
-        let mut started = vec![];
-        loop {
-            let share: Vec<T> = values.by_ref().take(each).collect();
-            if share.is_empty() {
-                break;
-            }
-            started.push(scope.spawn(|| share.into_iter().map(&act).collect::<Vec<_>>()));
-        }
-        started.into_iter().flat_map(|it| it.join().unwrap_or_else(|told| std::panic::resume_unwind(told))).collect()
-    })
 }
 
 /// What a terminal shows meanwhile.

@@ -3,7 +3,6 @@
 //! the form that this program gives it. What was
 //! looked through is what is read: both stand in one transaction.
 
-use std::collections::BTreeMap;
 use std::path::{Component, Path};
 use std::time::{Duration, Instant};
 
@@ -11,13 +10,11 @@ use rusqlite::limits::Limit;
 use rusqlite::types::ValueRef;
 use rusqlite::{Connection, Error, ErrorCode};
 use serde::de::DeserializeOwned;
-use serde_json::Value;
 
+use crate::config::{MOST_NODES, MOST_ORDERS};
+use crate::index::{self, Asked, Source, ANEW};
 use crate::text::{is_hidden, spelled};
-use crate::watch::index;
 use crate::End;
-
-type Asked<T> = rusqlite::Result<T>;
 
 /// The most bytes of a value.
 const MOST_VALUE: i32 = 64 << 20;
@@ -26,15 +23,15 @@ const MOST_TIME: Duration = Duration::from_secs(60);
 const OF_MIB: Duration = Duration::from_secs(1);
 /// How many steps SQLite does before it looks at the time.
 const STEPS: i32 = 1 << 16;
-/// The greatest number that a run of a system can have, and the greatest ones of a node and a value.
+/// The greatest number that a run of a system can have, and the greatest ones of a node and an order.
 pub const LAST: i64 = (1 << 22) - 1;
-const NODES: i64 = 15;
-const VALUES: i64 = 14;
+const NODES: i64 = MOST_NODES as i64 - 1;
+const ORDERS: i64 = MOST_ORDERS as i64 - 1;
 /// The last millisecond of the year 9999.
 const MOST_MOMENT: i64 = 253_402_300_799_999;
-/// How long a version and the name of a finding may be.
+/// How long a version and the line of a finding may be.
 const MOST_VERSION: usize = 64;
-const MOST_FINDING: usize = 8;
+const MOST_FINDING: usize = 80;
 
 /// The form of a value.
 #[derive(Clone, Copy)]
@@ -64,86 +61,79 @@ enum Form {
 use Form::*;
 
 const VERDICTS: Form = Word(&["agreed", "explained", "no", "gap"]);
+const SOURCES: Form = Word(&["watcher", "archive"]);
 const RUN: Form = Number(LAST);
 const NODE: Form = Number(NODES);
 const PLACE: Form = Number(u32::MAX as i64);
 const SIZE: Form = Number(i64::MAX);
 
 /// The columns that are read of each table. Where a name ends with `?`, there may be nothing.
-const TABLES: [(&str, &[(&str, Form)]); 11] = [
+const TABLES: [(&str, &[(&str, Form)]); 8] = [
     ("system", &[("id", System), ("nodes", Number(NODES + 1))]),
     (
         "runs",
         &[
-            ("number", RUN),
+            ("id", Signed),
+            ("source", SOURCES),
+            ("number?", RUN),
             ("run_id", Digest),
+            ("nodes?", Nodes),
+            ("generals", Number(NODES + 1)),
+            ("traitors", NODE),
             ("verdict", VERDICTS),
-            ("value?", Number(VALUES)),
-            ("listed", Nodes),
+            ("decided?", Number(ORDERS)),
+            ("assumed_faulty", Nodes),
             ("others", Lists),
             ("missing", Nodes),
-            ("path?", Below),
-            ("sha256?", Digest),
-            ("bytes?", SIZE),
-            ("stored?", SIZE),
+            ("suspected", Nodes),
+            ("findings", Findings),
+            ("equal_roots", Pairs),
+            ("path?", Name),
+            ("place", PLACE),
             ("library", Version),
             ("judged", Moment),
-            ("nodes", Nodes),
         ],
     ),
-    ("convictions", &[("number", RUN), ("node", NODE), ("kind", Kind), ("path", Below)]),
-    ("stored", &[("path", Below), ("number", RUN), ("sha256", Digest), ("node?", NODE), ("kind?", Kind)]),
+    (
+        "convictions",
+        &[("run", Signed), ("node", NODE), ("kind", Kind), ("other", PLACE), ("root", Digest), ("evidence?", Below)],
+    ),
+    (
+        "files",
+        &[
+            ("path", Name),
+            ("source", SOURCES),
+            ("holds", Word(&["runs", "verdict", "earlier", "evidence"])),
+            ("number?", RUN),
+            ("node?", NODE),
+            ("kind?", Kind),
+            ("bytes", SIZE),
+            ("modified?", Signed),
+            ("sha256?", Digest),
+            ("input?", Digest),
+            ("input_bytes?", SIZE),
+            ("said?", Text),
+            ("fault?", Text),
+            ("library", Version),
+            ("program?", Digest),
+            ("judged", Moment),
+            ("gone", Number(1)),
+        ],
+    ),
     (
         "changes",
         &[
             ("place", Number(i64::MAX)),
             ("number", RUN),
             ("verdict", VERDICTS),
-            ("value?", Number(VALUES)),
-            ("listed", Nodes),
+            ("decided?", Number(ORDERS)),
+            ("assumed_faulty", Nodes),
             ("missing", Nodes),
             ("path?", Below),
             ("sha256?", Digest),
             ("library", Version),
             ("judged", Moment),
         ],
-    ),
-    (
-        "files",
-        &[
-            ("path", Name),
-            ("bytes", SIZE),
-            ("modified", Signed),
-            ("sha256?", Digest),
-            ("input?", Digest),
-            ("said", Text),
-            ("fault?", Text),
-            ("library", Version),
-            ("program", Digest),
-            ("judged", Moment),
-            ("gone", Number(1)),
-        ],
-    ),
-    (
-        "answers",
-        &[
-            ("path", Name),
-            ("place", PLACE),
-            ("run_id", Digest),
-            ("number?", RUN),
-            ("nodes?", Nodes),
-            ("verdict", VERDICTS),
-            ("value?", Number(VALUES)),
-            ("listed", Nodes),
-            ("missing", Nodes),
-            ("suspected", Nodes),
-            ("findings", Findings),
-            ("equal_roots", Pairs),
-        ],
-    ),
-    (
-        "accused",
-        &[("path", Name), ("place", PLACE), ("node", NODE), ("kind", Kind), ("other", PLACE), ("root", Digest)],
     ),
     (
         "earlier",
@@ -172,6 +162,12 @@ fn is_node(node: &u32) -> bool {
 /// Whether a text has so many characters at most, all of which show.
 fn is_short(text: &str, most: usize) -> bool {
     (1..=most).contains(&text.len()) && text.bytes().all(|it| it.is_ascii_graphic())
+}
+
+/// Whether a line is that of a finding, as N8 and what it names.
+fn is_finding(line: &str) -> bool {
+    let is_plain = line.bytes().all(|it| it.is_ascii_graphic() || it == b' ');
+    (2..=MOST_FINDING).contains(&line.len()) && is_plain && line.starts_with('N')
 }
 
 /// Whether a path stays below the folder that it counts from.
@@ -203,7 +199,7 @@ impl Form {
             Nodes => is_list(text, is_node),
             Lists => is_list(text, |list: &Vec<u32>| list.iter().all(is_node)),
             Pairs => is_list(text, |(one, other): &(u32, u32)| is_node(one) && is_node(other)),
-            Findings => is_list(text, |it: &Value| it["id"].as_str().is_some_and(|id| is_short(id, MOST_FINDING))),
+            Findings => is_list(text, |line: &String| is_finding(line)),
             Below => is_below(text),
             Text => true,
             Signed | Number(_) | Moment | Name => false,
@@ -246,13 +242,6 @@ pub fn end_of(path: &Path, told: &Error) -> End {
     }
 }
 
-/// What a database has: the text of each table and index by its type and name.
-fn schema(database: &Connection) -> Asked<BTreeMap<(String, String), Option<String>>> {
-    let mut asked = database.prepare("SELECT type, name, sql FROM main.sqlite_schema")?;
-    let rows = asked.query_map([], |row| Ok(((row.get(0)?, row.get(1)?), row.get(2)?)))?;
-    rows.collect()
-}
-
 /// Sets what a database may do: nothing in its schema is run, and no question takes for ever.
 fn bound(database: &Connection, path: &Path) -> Asked<()> {
     database.busy_timeout(Duration::from_secs(10))?;
@@ -264,24 +253,14 @@ fn bound(database: &Connection, path: &Path) -> Asked<()> {
     Ok(())
 }
 
-/// Opens an index that anybody may have made, for reading, with views of this program beside its tables.
-pub fn open(path: &Path, views: &str) -> Result<Connection, End> {
+/// Opens an index that anybody may have made, for reading.
+pub fn open(path: &Path) -> Result<Connection, End> {
     let told = |told: Error| end_of(path, &told);
     let database = index::connect_to_read(path).map_err(End::file(path))?;
     bound(&database, path).map_err(told)?;
-    let version: i32 = database.pragma_query_value(None, "user_version", |row| row.get(0)).map_err(told)?;
-    if version != index::VERSION {
-        return Err(End::fault(path, format!("version {version} of its tables, and not {}", index::VERSION)));
-    }
-    let own = index::tables().and_then(|own| schema(&own)).map_err(told)?;
-    database.execute_batch(views).map_err(told)?;
     database.execute_batch("PRAGMA query_only = ON; BEGIN").map_err(told)?;
-    let its = schema(&database).map_err(told)?;
-    let differs =
-        own.iter().find(|it| its.get(it.0) != Some(it.1)).or_else(|| its.iter().find(|it| !own.contains_key(it.0)));
-    if let Some(((kind, name), _)) = differs {
-        let name = spelled(name);
-        return Err(End::fault(path, format!("no index: the {kind} {name} is missing, or is none of an index")));
+    if let Some(other) = index::other_shape(&database).map_err(told)? {
+        return Err(End::fault(path, format!("{other}. {ANEW}")));
     }
     let whole: String = database.query_row("PRAGMA main.integrity_check(1)", [], |row| row.get(0)).map_err(told)?;
     if whole != "ok" {
@@ -295,6 +274,8 @@ pub fn open(path: &Path, views: &str) -> Result<Connection, End> {
 fn look_through(database: &Connection, path: &Path, table: &str, columns: &[(&str, Form)]) -> Result<(), End> {
     let told = |told: Error| end_of(path, &told);
     let names: Vec<&str> = columns.iter().map(|it| it.0.trim_end_matches('?')).collect();
+    let place_of = |name: &str| names.iter().position(|it| *it == name);
+    let of_source = place_of("source").zip(place_of("path"));
     let order = format!("SELECT {} FROM main.{table}", names.join(", "));
     let mut asked = database.prepare(&order).map_err(told)?;
     let (mut rows, mut place) = (asked.query([]).map_err(told)?, 0_u64);
@@ -306,6 +287,14 @@ fn look_through(database: &Connection, path: &Path, table: &str, columns: &[(&st
             if !is_nothing && !form.holds(value) {
                 let (name, said) = (names[at], form.said());
                 return Err(End::fault(path, format!("table {table}, row {place}: {name} is {said}")));
+            }
+        }
+        // A watcher's files lie below its folder, which is joined with their paths.
+        if let Some((source, file)) = of_source {
+            let (source, file) = (row.get_ref(source).map_err(told)?, row.get_ref(file).map_err(told)?);
+            let is_watchers = source.as_str().is_ok_and(|it| it == Source::Watcher.word()) && file != ValueRef::Null;
+            if is_watchers && !Below.holds(file) {
+                return Err(End::fault(path, format!("table {table}, row {place}: path is {}", Below.said())));
             }
         }
     }
@@ -339,7 +328,10 @@ mod tests {
     fn values_of_a_stranger() {
         let id = "1".repeat(64);
         let run = |number: &str, run_id: &str, verdict: &str, judged: &str| {
-            format!("INSERT INTO runs VALUES ({number}, '{run_id}', '{verdict}', 1, '[]', '[]', '[]', NULL, NULL, 1, 1, 'x', {judged}, '[]')")
+            format!(
+                "INSERT INTO runs VALUES (0, 'watcher', {number}, '{run_id}', '[]', 4, 1, '{verdict}', 1, '[]', '[]', '[]', '[]', \
+                 '[]', '[]', NULL, 0, 'x', {judged})"
+            )
         };
         assert_eq!(said("stranger", &run("0", &id, "no", "0")), "nothing");
         assert_eq!(said("stranger", &run("4194303", &id, "no", "253402300799999")), "nothing");
@@ -352,19 +344,29 @@ mod tests {
             (run("-1", &id, "no", "0"), "table runs, row 1: number is no number from 0 to 4194303"),
             (run("7", &id, "no", "9223372036854775807"), "table runs, row 1: judged is no moment from 1970 to 9999"),
             (run("7", &id, "no", "'x'"), "table runs, row 1: judged is no moment from 1970 to 9999"),
-            ("UPDATE answers SET nodes = '[16]'".into(), "table answers, row 1: nodes is no list of nodes"),
-            ("UPDATE answers SET listed = '[1e99]'".into(), "table answers, row 1: listed is no list of nodes"),
+            ("UPDATE runs SET nodes = '[16]'".into(), "table runs, row 1: nodes is no list of nodes"),
+            ("UPDATE runs SET missing = '[1e99]'".into(), "table runs, row 1: missing is no list of nodes"),
             (
-                format!("UPDATE answers SET listed = '{}'", "[".repeat(50_000)),
-                "table answers, row 1: listed is no list of nodes",
+                format!("UPDATE runs SET assumed_faulty = '{}'", "[".repeat(50_000)),
+                "table runs, row 1: assumed_faulty is no list of nodes",
             ),
             (
-                "UPDATE answers SET equal_roots = '[[1]]'".into(),
-                "table answers, row 1: equal_roots is no list of pairs of nodes",
+                "UPDATE runs SET equal_roots = '[[1]]'".into(),
+                "table runs, row 1: equal_roots is no list of pairs of nodes",
             ),
-            ("UPDATE answers SET findings = '[{}]'".into(), "table answers, row 1: findings is no list of findings"),
-            ("UPDATE accused SET kind = 'K1<script>'".into(), "table accused, row 1: kind is no kind of a conviction"),
-            ("UPDATE accused SET node = 99".into(), "table accused, row 1: node is no number from 0 to 15"),
+            ("UPDATE runs SET findings = '[\"<b>\"]'".into(), "table runs, row 1: findings is no list of findings"),
+            ("UPDATE runs SET generals = 17".into(), "table runs, row 1: generals is no number from 0 to 16"),
+            ("UPDATE runs SET source = 'me'".into(), "table runs, row 1: source is none of watcher, archive"),
+            ("UPDATE files SET source = 'watcher'".into(), "table files, row 1: path is no path below a folder"),
+            (
+                "UPDATE runs SET source = 'watcher', path = '../3'".into(),
+                "table runs, row 1: path is no path below a folder",
+            ),
+            (
+                "UPDATE convictions SET kind = 'K1<script>'".into(),
+                "table convictions, row 1: kind is no kind of a conviction",
+            ),
+            ("UPDATE convictions SET node = 99".into(), "table convictions, row 1: node is no number from 0 to 15"),
             (
                 "UPDATE files SET program = 'x'".into(),
                 "table files, row 1: program is no SHA-256 in 64 hexadecimal digits",
@@ -372,12 +374,12 @@ mod tests {
             ("UPDATE files SET judged = 1 << 62".into(), "table files, row 1: judged is no moment from 1970 to 9999"),
             ("UPDATE system SET id = '<b>'".into(), "table system, row 1: id is no id of a system"),
             (
-                "INSERT INTO convictions VALUES (7, 2, 'K1', '../x')".into(),
-                "table convictions, row 1: path is no path below a folder",
+                "UPDATE convictions SET evidence = '../x'".into(),
+                "table convictions, row 1: evidence is no path below a folder",
             ),
             (
-                "INSERT INTO convictions VALUES (7, 2, 'K1', '/x')".into(),
-                "table convictions, row 1: path is no path below a folder",
+                "UPDATE convictions SET evidence = '/x'".into(),
+                "table convictions, row 1: evidence is no path below a folder",
             ),
             (
                 "INSERT INTO admitted VALUES ('00', 1, 'x')".into(),
@@ -399,21 +401,28 @@ mod tests {
             (&*format!("DROP TABLE changes; {endless}"), "the index changes_by_number"),
             ("CREATE TRIGGER it AFTER UPDATE ON runs BEGIN DELETE FROM runs; END", "the trigger it"),
             ("CREATE TABLE \"\u{202e}x\" (a)", "the table \\u{202e}x"),
-            ("DROP TABLE stored", "the index stored_by_number"),
+            ("DROP TABLE logs", "the table logs"),
             ("ALTER TABLE runs ADD COLUMN a AS (abs(1))", "the table runs"),
             ("CREATE INDEX other ON runs (abs(number))", "the index other"),
         ] {
-            assert_eq!(said("tables", orders), format!("INDEX: no index: {wanted} is missing, or is none of an index"));
+            assert_eq!(
+                said("tables", orders),
+                format!("INDEX: another shape: {wanted} is missing, or is none of an index. {ANEW}")
+            );
         }
         let lies = format!(
             "DROP INDEX runs_by_verdict; CREATE INDEX runs_by_verdict ON runs (verdict, judged); INSERT INTO runs VALUES
-            (7, '{}', 'gap', 1, '[]', '[]', '[]', NULL, NULL, 1, 1, 'x', 4294967295, '[]'); PRAGMA writable_schema = ON;
+            (0, 'watcher', 7, '{}', '[]', 4, 1, 'gap', 1, '[]', '[]', '[]', '[]', '[]', '[]', NULL, 0, 'x', 4294967295);
+            PRAGMA writable_schema = ON;
             UPDATE sqlite_schema SET sql = 'CREATE INDEX runs_by_verdict ON runs (verdict, number)'
             WHERE name = 'runs_by_verdict'",
             "1".repeat(64)
         );
-        assert_eq!(said("tables", &lies), "INDEX: no index: row 1 missing from index runs_by_verdict");
-        assert_eq!(said("tables", "PRAGMA user_version = 1"), "INDEX: version 1 of its tables, and not 2");
+        assert!(said("tables", &lies).starts_with("INDEX: no index: row "), "{}", said("tables", &lies));
+        assert_eq!(
+            said("tables", "PRAGMA user_version = 2"),
+            format!("INDEX: version 2 of its tables, and not 3. {ANEW}")
+        );
     }
 
     #[test]

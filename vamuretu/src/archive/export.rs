@@ -6,6 +6,7 @@ use std::os::unix::ffi::OsStrExt;
 use serde_json::{json, Map, Value};
 
 use super::read::{put_path, Digest, Kept, Reader};
+use crate::index::Run;
 use crate::text::{self, spelled};
 use crate::End;
 
@@ -18,14 +19,17 @@ pub enum Form {
 }
 
 /// The columns of a row, in their order.
-const COLUMNS: [&str; 21] = [
+const COLUMNS: [&str; 24] = [
     "number",
     "run",
+    "generals",
+    "traitors",
     "verdict",
-    "value",
-    "listed",
+    "order",
+    "assumed_faulty",
     "missing",
     "suspected",
+    "findings",
     "equal_roots",
     "convicted",
     "fault",
@@ -43,14 +47,19 @@ const COLUMNS: [&str; 21] = [
 ];
 
 fn object_of(row: &Kept) -> Map<String, Value> {
+    let (run, file) = (row.run.as_ref(), row.file.as_ref());
     let value = json!({
-        "number": row.number, "run": row.run_id, "verdict": row.verdict, "value": row.value, "listed": row.listed,
-        "missing": row.missing, "suspected": row.suspected, "equal_roots": row.equal_roots, "convicted": row.convicted,
-        "fault": row.fault, "place": row.place, "bytes": row.bytes, "modified": row.modified, "sha256": row.sha256,
-        "input": row.input, "library": row.library, "program": row.program, "judged": row.judged, "gone": row.gone,
+        "number": run.map(|it| it.number), "run": run.map(|it| &it.run_id), "generals": run.map(|it| it.generals),
+        "traitors": run.map(|it| it.traitors), "verdict": run.map(|it| it.verdict), "order": run.map(|it| it.order),
+        "assumed_faulty": run.map(|it| &it.assumed_faulty), "missing": run.map(|it| &it.missing),
+        "suspected": run.map(|it| &it.suspected), "findings": run.map(|it| &it.findings),
+        "equal_roots": run.map(|it| &it.equal_roots), "convicted": run.map(Run::convicted_said),
+        "fault": file.map(|it| &it.fault), "place": run.map(|it| it.place), "bytes": file.map(|it| it.bytes),
+        "modified": file.map(|it| it.modified), "sha256": file.map(|it| &it.sha256), "input": file.map(|it| &it.input),
+        "library": row.library(), "program": file.map(|it| &it.program), "judged": row.judged(), "gone": row.is_gone(),
     });
     let Value::Object(mut object) = value else { return Map::new() };
-    if let Some(path) = &row.path {
+    if let Some(path) = row.path() {
         put_path(&mut object, path);
     }
     object
@@ -59,7 +68,7 @@ fn object_of(row: &Kept) -> Map<String, Value> {
 /// The fields of a row of CSV. A path that is spelled otherwise than it is stands in `path_hex` too.
 fn fields(row: &Kept) -> [String; COLUMNS.len()] {
     let mut object = object_of(row);
-    if let Some(path) = row.path.as_ref().filter(|path| path.to_str() != Some(&spelled(*path))) {
+    if let Some(path) = row.path().filter(|path| path.to_str() != Some(&spelled(*path))) {
         object.insert("path_hex".into(), hex::encode(path.as_os_str().as_bytes()).into());
     }
     COLUMNS.map(|name| field(object.get(name)))

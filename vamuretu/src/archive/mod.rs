@@ -1,11 +1,10 @@
 //! An archive of bundles: files are judged by the proved library, an index keeps what was answered of each, and tells it.
-//! The index is that of a watcher, with tables of its own ([`crate::watch::index`]).
+//! The index is that of a watcher too ([`crate::index`]).
 
 mod add;
 mod checked;
 mod export;
 pub mod files;
-pub mod judged;
 mod prune;
 pub mod read;
 pub mod room;
@@ -16,6 +15,7 @@ use std::path::PathBuf;
 
 use serde_json::json;
 
+use crate::index::Source;
 use crate::{text, End};
 use add::Add;
 pub use add::{admissions_of, id_of};
@@ -73,9 +73,9 @@ pub fn perform(asked: &Archive) -> Result<bool, End> {
             let reader = Reader::open(&words.index)?;
             let mut counts = std::collections::BTreeMap::<String, usize>::new();
             reader.each_kept(|row| {
-                let is_kept = row.source == "archive" && !row.gone;
-                let of = row.verdict.unwrap_or_else(|| "faults".into());
-                *counts.entry(of).or_default() += usize::from(is_kept);
+                let is_kept = row.is_of(Source::Archive) && !row.is_gone();
+                let of = row.run.map_or("faults", |run| run.verdict.word());
+                *counts.entry(of.into()).or_default() += usize::from(is_kept);
                 Ok(())
             })?;
             counts.retain(|_, count| *count > 0);

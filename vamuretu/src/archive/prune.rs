@@ -9,6 +9,7 @@ use serde_json::json;
 
 use super::read::{Kept, Reader};
 use crate::config::{self, WatchFile};
+use crate::index::{Run, Source, Verdict};
 use crate::watch::keep::{bundle_path, BUNDLE, EARLIER, VERDICT};
 use crate::End;
 
@@ -23,15 +24,21 @@ pub struct Prune {
 }
 
 /// Whether the files of a run go, as a watcher has judged it: below the first run that stays, agreed, and with nobody convicted.
-fn goes(number: u32, first: u32, verdict: Option<&str>, convicted: usize) -> bool {
-    number < first && verdict == Some("agreed") && convicted == 0
+fn goes(number: u32, first: u32, verdict: Verdict, convicted: usize) -> bool {
+    number < first && verdict == Verdict::Agreed && convicted == 0
+}
+
+/// The number of a row, if a watcher has judged its run.
+fn number_of(run: &Run) -> Option<u32> {
+    run.number.filter(|_| run.source == Source::Watcher)
 }
 
 /// The path of the bundle of a row, if its files go. It has to be that by which a watcher stores this bundle.
 fn bundle_of(row: &Kept, first: u32) -> Option<String> {
-    let number = row.number.filter(|_| row.source == "watcher")?;
-    let path = own_path(number, row.input.as_deref()?, row.path.as_deref()?)?;
-    goes(number, first, row.verdict.as_deref(), row.convicted.len()).then_some(path)
+    let run = row.run.as_ref()?;
+    let number = number_of(run)?;
+    let path = own_path(number, row.input()?, row.path()?)?;
+    goes(number, first, run.verdict, run.convicted.len()).then_some(path)
 }
 
 /// A path, if a watcher stores the bundle of this digest there.
@@ -67,7 +74,7 @@ pub fn prune(words: &Prune) -> Result<String, End> {
     let reader = Reader::open(&file.watch.database)?;
     let mut newest = None;
     reader.each_kept(|row| {
-        newest = newest.max(row.number.filter(|_| row.source == "watcher"));
+        newest = newest.max(row.run.as_ref().and_then(number_of));
         Ok(())
     })?;
     let first = newest.map_or(0, |newest| newest.saturating_add(1).saturating_sub(words.keep));
@@ -86,9 +93,9 @@ mod tests {
 
     #[test]
     fn old_runs_go_that_agreed_and_convict_nobody() {
-        let agreed = Some("agreed");
+        let agreed = Verdict::Agreed;
         assert!(goes(7, 1200, agreed, 0) && goes(1199, 1200, agreed, 0) && !goes(1200, 1200, agreed, 0));
-        assert!(![Some("no"), Some("explained"), Some("gap"), None].iter().any(|&verdict| goes(7, 1200, verdict, 0)));
+        assert!(Verdict::ALL.into_iter().all(|verdict| goes(7, 1200, verdict, 0) == (verdict == agreed)));
         assert!(!goes(7, 1200, agreed, 1));
     }
 

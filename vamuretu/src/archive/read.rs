@@ -7,11 +7,24 @@ use rusqlite::{Connection, Row};
 use serde_json::{json, Map, Value};
 
 use super::checked;
-use super::store::{list, path_of};
+use crate::index::{path_in, path_of, value_of, Asked, Conviction, Run, Source, Verdict};
 use crate::text::spelled;
 use crate::End;
 
-type Asked<T> = rusqlite::Result<T>;
+/// All that is kept, by number and path.
+const KEPT: &str =
+    "SELECT runs.*, files.path AS file, files.source AS file_source, bytes, modified, sha256, input, fault,
+    files.library AS file_library, program, files.judged AS file_judged, gone
+    FROM runs FULL JOIN files ON files.path = runs.path WHERE runs.id IS NOT NULL OR fault IS NOT NULL
+    ORDER BY runs.number IS NULL, runs.number, coalesce(runs.path, files.path), place";
+/// What was said of files and of runs of a watcher before, each followed by what is said now.
+const TURNED: &str = "SELECT NULL AS number, path, turn, sha256, said, library FROM earlier
+    UNION ALL SELECT NULL, path, 1 << 40, sha256, said, library FROM files WHERE path IN (SELECT path FROM earlier)
+    UNION ALL SELECT number, NULL, place, sha256, verdict || coalesce(' ' || decided, ''), library FROM changes
+    UNION ALL SELECT runs.number, NULL, 1 << 40, input, verdict || coalesce(' ' || decided, ''), runs.library
+        FROM runs LEFT JOIN files ON files.path = runs.path
+        WHERE runs.source = 'watcher' AND runs.number IN (SELECT number FROM changes)
+    ORDER BY 1, 2, 3";
 
 /// What stands above convictions in runs that have no number.
 pub const NUMBERLESS: &str =
@@ -70,6 +83,8 @@ pub struct Found {
     /// The number in the run of who is convicted, if it is known.
     pub general: Option<u32>,
     pub kind: Option<String>,
+    /// Whether it convicts across two runs of a file.
+    pub is_across: bool,
     /// The ids of all runs of the file of a conviction, in their order.
     pub runs: Vec<String>,
     /// The file of the evidence, if there is one already.
@@ -78,31 +93,25 @@ pub struct Found {
     pub said: String,
 }
 
-/// A run in a file, a file with a fault, or a run of a watcher, which may be a gap.
+/// A run that was judged, and its file. A gap has no file, and a file with a fault has no run.
 #[derive(Debug, Clone, PartialEq, Eq)]
 pub struct Kept {
-    pub source: String,
-    pub number: Option<u32>,
-    pub run_id: Option<String>,
-    pub verdict: Option<String>,
-    pub value: Option<u32>,
-    pub listed: Vec<u32>,
-    pub missing: Vec<u32>,
-    pub suspected: Vec<u32>,
-    pub equal_roots: Vec<(u32, u32)>,
-    /// The names of what was found, as N8.
-    pub findings: Vec<String>,
-    /// The node that each general is, if an admission shows it.
-    pub nodes: Vec<u32>,
-    /// Who is convicted by what, as `node 3 by K2`, or `general 3 by K2` where no admission shows the run.
-    pub convicted: Vec<String>,
-    pub fault: Option<String>,
-    pub path: Option<PathBuf>,
-    pub place: u32,
-    pub bytes: Option<u64>,
+    pub run: Option<Run>,
+    pub file: Option<File>,
+}
+
+/// A file that was looked at.
+#[derive(Debug, Clone, PartialEq, Eq)]
+pub struct File {
+    pub source: Source,
+    pub path: PathBuf,
+    pub bytes: u64,
     pub modified: Option<i64>,
+    /// The SHA-256 of the file as it is stored, and of what was judged.
     pub sha256: Option<String>,
     pub input: Option<String>,
+    /// Why there is no answer.
+    pub fault: Option<String>,
     pub library: String,
     pub program: Option<String>,
     pub judged: i64,
@@ -190,62 +199,118 @@ impl Found {
     }
 }
 
-impl Kept {
-    fn of(row: &Row) -> Asked<Kept> {
-        let is_null = |column: &str| row.get_ref(column).map(|it| it == rusqlite::types::ValueRef::Null);
-        let path = if is_null("path")? { None } else { Some(path_of(row.get_ref("path")?)) };
-        let nodes = |column: &str| if is_null(column)? { Ok(vec![]) } else { list(row, column) };
-        Ok(Kept {
-            source: row.get("source")?,
-            number: row.get("number")?,
-            run_id: row.get("run_id")?,
-            verdict: row.get("verdict")?,
-            value: row.get("value")?,
-            listed: nodes("listed")?,
-            missing: nodes("missing")?,
-            suspected: nodes("suspected")?,
-            equal_roots: if is_null("equal_roots")? { vec![] } else { list(row, "equal_roots")? },
-            findings: list(row, "findings")?,
-            nodes: nodes("nodes")?,
-            convicted: list(row, "convicted")?,
-            fault: row.get("fault")?,
+impl File {
+    /// The file of a row, if it has one.
+    fn of(row: &Row) -> Asked<Option<File>> {
+        let Some(path) = path_in(row, "file")? else { return Ok(None) };
+        Ok(Some(File {
+            source: Source::of(row, "file_source")?,
             path,
-            place: row.get("place")?,
             bytes: row.get("bytes")?,
             modified: row.get("modified")?,
             sha256: row.get("sha256")?,
             input: row.get("input")?,
-            library: row.get("library")?,
+            fault: row.get("fault")?,
+            library: row.get("file_library")?,
             program: row.get("program")?,
-            judged: row.get("judged")?,
+            judged: row.get("file_judged")?,
             gone: row.get("gone")?,
-        })
+        }))
+    }
+}
+
+impl Kept {
+    fn of(database: &Connection, row: &Row) -> Asked<Kept> {
+        let is_run = row.get_ref("id")? != rusqlite::types::ValueRef::Null;
+        let run = is_run.then(|| Run::read(database, row)).transpose()?;
+        Ok(Kept { run, file: File::of(row)? })
     }
 
-    /// The verdict in the words of a line.
+    pub fn number(&self) -> Option<u32> {
+        self.run.as_ref().and_then(|it| it.number)
+    }
+
+    pub fn verdict(&self) -> Option<Verdict> {
+        self.run.as_ref().map(|it| it.verdict)
+    }
+
+    pub fn path(&self) -> Option<&Path> {
+        self.file.as_ref().map(|it| it.path.as_path())
+    }
+
+    /// The SHA-256 of what was judged.
+    pub fn input(&self) -> Option<&String> {
+        self.file.as_ref().and_then(|it| it.input.as_ref())
+    }
+
+    fn fault(&self) -> Option<&String> {
+        self.file.as_ref().and_then(|it| it.fault.as_ref())
+    }
+
+    pub fn is_of(&self, source: Source) -> bool {
+        self.run.as_ref().map(|it| it.source).or(self.file.as_ref().map(|it| it.source)) == Some(source)
+    }
+
+    pub fn is_gone(&self) -> bool {
+        self.file.as_ref().is_some_and(|it| it.gone)
+    }
+
+    /// The version of the library that judged, and when that was.
+    pub fn library(&self) -> Option<&String> {
+        self.run.as_ref().map(|it| &it.library).or(self.file.as_ref().map(|it| &it.library))
+    }
+
+    pub fn judged(&self) -> Option<i64> {
+        self.run.as_ref().map(|it| it.judged).or(self.file.as_ref().map(|it| it.judged))
+    }
+
+    /// The verdict in the words of a line, or the fault.
     pub fn said(&self) -> String {
-        let value = self.value.map_or_else(String::new, |value| format!(" {value}"));
-        let verdict = self.verdict.as_ref().map(|it| format!("{it}{value}"));
-        let convicted = self.convicted.iter().map(|it| format!(", convicted {it}")).collect::<String>();
-        format!("{}{convicted}", verdict.or_else(|| self.fault.clone()).unwrap_or_default())
+        let fault = || self.fault().cloned().unwrap_or_default();
+        self.run.as_ref().map_or_else(fault, Run::said)
     }
 
     /// What was found of it.
     fn found(&self, said: impl Into<String>) -> Found {
-        let files = self.path.iter().cloned().collect();
-        Found { number: self.number, run_id: self.run_id.clone(), files, said: said.into(), ..Found::default() }
+        let (files, run_id) = (self.path().map(Path::to_owned), self.run.as_ref().map(|it| it.run_id.clone()));
+        Found {
+            number: self.number(),
+            run_id,
+            files: files.into_iter().collect(),
+            said: said.into(),
+            ..Found::default()
+        }
     }
 
-    /// Whether it is a run that was judged, of a file that is there.
+    /// Whether it is a run that was judged by logs, of a file that is there.
     pub fn is_there(&self) -> bool {
-        !self.gone && self.verdict.as_ref().is_some_and(|it| it != "gap")
+        !self.is_gone() && self.verdict().is_some_and(|it| it != Verdict::Gap)
+    }
+
+    /// Who is convicted by a conviction of the run.
+    fn blamed(&self, run: &Run, it: &Conviction) -> Found {
+        let general = run.general_of(it.node);
+        let (who, named) = match run.nodes.is_empty() {
+            false => (Who::Node(it.node), format!("node {}", it.node)),
+            true => (Who::Root(it.root.clone()), format!("general {general}, of root {},", it.root)),
+        };
+        let is_across = it.other != run.place;
+        let across = if is_across { format!(" across {} {}", run.place, it.other) } else { String::new() };
+        Found {
+            is_across,
+            who: Some(who),
+            general: Some(general),
+            evidence: it.evidence.clone(),
+            kind: Some(it.kind.clone()),
+            ..self.found(format!("{named} is convicted by {}{across}", it.kind))
+        }
     }
 }
 
 impl Reader {
     /// Opens an index, which anybody may have made, and looks through all of it.
     pub fn open(path: &Path) -> Result<Reader, End> {
-        let database = checked::open(path, include_str!("views.sql"))?;
+        let database = checked::open(path)?;
         let mut reader = Reader { database, path: path.to_owned(), system: None, has_admissions: false };
         let told = reader.prepare();
         (reader.system, reader.has_admissions) = reader.told(told)?;
@@ -270,11 +335,10 @@ impl Reader {
 
     /// Calls for each row that is kept, by number and path.
     pub fn each_kept(&self, mut act: impl FnMut(Kept) -> Result<(), End>) -> Result<(), End> {
-        let order = "SELECT * FROM kept ORDER BY number IS NULL, number, path, place";
-        let mut asked = self.told(self.database.prepare(order))?;
+        let mut asked = self.told(self.database.prepare(KEPT))?;
         let mut rows = self.told(asked.query([]))?;
         while let Some(row) = self.told(rows.next())? {
-            act(self.told(Kept::of(row))?)?;
+            act(self.told(Kept::of(&self.database, row))?)?;
         }
         Ok(())
     }
@@ -299,11 +363,11 @@ impl Reader {
             Question::EqualRoots => self.equal_roots(),
             Question::Changed => self.changed(),
             Question::Verdicts => {
-                let is_odd = |it: &Kept| it.is_there() && it.verdict.as_deref() != Some("agreed");
+                let is_odd = |it: &Kept| it.is_there() && it.verdict() != Some(Verdict::Agreed);
                 Ok(self.kept(is_odd)?.iter().map(|it| it.found(it.said())).collect())
             }
             Question::Faults => {
-                let faults = self.kept(|it| !it.gone && it.fault.is_some())?;
+                let faults = self.kept(|it| !it.is_gone() && it.fault().is_some())?;
                 Ok(faults.iter().map(|it| it.found(it.said())).collect())
             }
         }
@@ -311,8 +375,8 @@ impl Reader {
 
     /// The first and the last number of the runs that there have to be.
     pub fn bounds(&self, range: Range) -> Result<Option<(u32, u32)>, End> {
-        let order = "SELECT min(number), max(number) FROM (SELECT number FROM runs UNION ALL SELECT number FROM answers
-            UNION ALL SELECT number FROM admitted)";
+        let order =
+            "SELECT min(number), max(number) FROM (SELECT number FROM runs UNION ALL SELECT number FROM admitted)";
         let known = self.rows(order, |row| Ok((row.get::<_, Option<u32>>(0)?, row.get::<_, Option<u32>>(1)?)))?;
         let (first, last) = known.first().copied().unwrap_or_default();
         let bounds = range.first.or(first).zip(range.last.or(last));
@@ -325,8 +389,11 @@ impl Reader {
         };
         let numbers = |order| Ok::<BTreeSet<u32>, End>(self.rows(order, |row| row.get(0))?.into_iter().collect());
         let admitted = numbers("SELECT number FROM admitted")?;
-        let of_watcher = numbers("SELECT number FROM runs WHERE verdict = 'gap'")?;
-        let there = numbers("SELECT number FROM kept WHERE NOT gone AND number IS NOT NULL AND verdict <> 'gap'")?;
+        let of_watcher = numbers("SELECT number FROM runs WHERE verdict = 'gap' AND number IS NOT NULL")?;
+        let there = numbers(
+            "SELECT runs.number FROM runs LEFT JOIN files ON files.path = runs.path
+             WHERE NOT coalesce(gone, 0) AND runs.number IS NOT NULL AND verdict <> 'gap'",
+        )?;
         let said = |number: &u32| match () {
             () if of_watcher.contains(number) => "no log came",
             () if !admitted.is_empty() && !admitted.contains(number) => "no file that can be judged, and no admission",
@@ -351,38 +418,47 @@ impl Reader {
     }
 
     fn convictions(&self) -> Result<Vec<Found>, End> {
-        self.rows("SELECT * FROM blamed ORDER BY nodes IS NULL, node, number, run_id, path, place, other", |row| {
-            let (node, kind) = (row.get::<_, u32>("node")?, row.get::<_, String>("kind")?);
-            let (place, other): (u32, u32) = (row.get("place")?, row.get("other")?);
-            let across = if place == other { String::new() } else { format!(" across {place} {other}") };
-            let nodes: Option<String> = row.get("nodes")?;
-            let nodes: Option<Vec<u32>> = nodes.and_then(|it| serde_json::from_str(&it).ok());
-            let (who, general) = match nodes {
-                Some(nodes) => (Who::Node(node), (0..).zip(nodes).find(|it| it.1 == node).map(|it| it.0)),
-                None => (Who::Root(row.get("root")?), Some(node)),
-            };
-            let named = match &who {
-                Who::Node(node) => format!("node {node}"),
-                Who::Root(root) => format!("general {node}, of root {root},"),
-            };
-            Ok(Found {
-                number: row.get("number")?,
-                run_id: row.get("run_id")?,
-                who: Some(who),
-                general,
-                evidence: row.get("evidence")?,
-                runs: list(row, "runs")?,
-                files: vec![path_of(row.get_ref("path")?)],
-                said: format!("{named} is convicted by {kind}{across}"),
-                kind: Some(kind),
-                ..Found::default()
-            })
-        })
+        let convicting =
+            self.kept(|it| !it.is_gone() && it.run.as_ref().is_some_and(|run| !run.convicted.is_empty()))?;
+        let mut found = vec![];
+        for it in &convicting {
+            let Some(run) = &it.run else { continue };
+            let runs = self.runs_of(run)?;
+            for conviction in &run.convicted {
+                let key = (
+                    run.nodes.is_empty(),
+                    conviction.node,
+                    run.number,
+                    &run.run_id,
+                    &run.path,
+                    run.place,
+                    conviction.other,
+                );
+                found.push((key, Found { runs: runs.clone(), ..it.blamed(run, conviction) }));
+            }
+        }
+        found.sort_by(|one, other| one.0.cmp(&other.0));
+        Ok(found.into_iter().map(|it| it.1).collect())
+    }
+
+    /// The ids of all runs of the file of a run, in their order.
+    fn runs_of(&self, run: &Run) -> Result<Vec<String>, End> {
+        let Some(path) = &run.path else { return Ok(vec![]) };
+        let read = || {
+            let order = "SELECT run_id FROM runs WHERE source = ? AND path = ? ORDER BY place";
+            let mut asked = self.database.prepare_cached(order)?;
+            let rows = asked.query_map(rusqlite::params![run.source.word(), value_of(path)], |row| row.get(0))?;
+            rows.collect()
+        };
+        self.told(read())
     }
 
     /// The files whose digests the index has, by their paths.
     pub fn digests(&self) -> Result<Vec<Digest>, End> {
-        self.rows("SELECT * FROM digests ORDER BY path", |row| {
+        let order = "SELECT CAST(path AS BLOB) AS path, sha256, said, node, kind, coalesce(number,
+            (SELECT min(number) FROM runs WHERE source = 'archive' AND runs.path = files.path)) AS number
+            FROM files WHERE NOT gone AND sha256 IS NOT NULL ORDER BY 1";
+        self.rows(order, |row| {
             let (node, kind): (Option<u32>, Option<String>) = (row.get("node")?, row.get("kind")?);
             Ok(Digest {
                 path: path_of(row.get_ref("path")?),
@@ -397,19 +473,20 @@ impl Reader {
     fn doubles(&self) -> Result<Vec<Found>, End> {
         let mut runs: BTreeMap<(Option<u32>, Option<String>), Vec<Kept>> = BTreeMap::new();
         for it in self.kept(Kept::is_there)? {
-            runs.entry((it.number, it.run_id.clone())).or_default().push(it);
+            let run_id = it.run.as_ref().map(|it| it.run_id.clone());
+            runs.entry((it.number(), run_id)).or_default().push(it);
         }
         let mut found = vec![];
         for mut files in runs.into_values() {
-            let own: Vec<Option<String>> =
-                files.iter().filter(|it| it.source == "archive").map(|it| it.input.clone()).collect();
+            let own = files.iter().filter(|it| it.is_of(Source::Archive)).map(|it| it.input().cloned());
+            let own: Vec<Option<String>> = own.collect();
             // What the watcher has stored is no second file where the archive has taken it in.
-            files.retain(|it| it.source == "archive" || !own.contains(&it.input));
+            files.retain(|it| it.is_of(Source::Archive) || !own.contains(&it.input().cloned()));
             if let [first, _, ..] = &files[..] {
                 let said = files.iter().map(Kept::said).collect::<Vec<_>>().join("; ");
-                let are_same = files.iter().all(|it| it.input == first.input);
+                let are_same = files.iter().all(|it| it.input() == first.input());
                 let bytes = if are_same { "the same bytes" } else { "different bytes" };
-                let paths = files.iter().filter_map(|it| it.path.clone()).collect();
+                let paths = files.iter().filter_map(|it| it.path().map(Path::to_owned)).collect();
                 found.push(Found { files: paths, ..first.found(format!("{} files, {bytes}: {said}", files.len())) });
             }
         }
@@ -418,7 +495,7 @@ impl Reader {
 
     fn unknown(&self) -> Result<Vec<Found>, End> {
         let why = if self.has_admissions { "no admission shows this run" } else { "the index has no admissions" };
-        let unknown = self.kept(|it| it.is_there() && it.number.is_none())?;
+        let unknown = self.kept(|it| it.is_there() && it.number().is_none())?;
         let mut found: Vec<Found> = unknown.iter().map(|it| it.found(format!("{why} ({})", it.said()))).collect();
         let order = "SELECT path, fault FROM admissions WHERE fault IS NOT NULL ORDER BY path";
         found.extend(self.rows(order, |row| {
@@ -429,9 +506,9 @@ impl Reader {
     }
 
     fn equal_roots(&self) -> Result<Vec<Found>, End> {
-        let with = self.kept(|it| it.is_there() && !it.equal_roots.is_empty())?;
+        let with = self.kept(|it| it.is_there() && it.run.as_ref().is_some_and(|run| !run.equal_roots.is_empty()))?;
         let of = |it: &Kept| {
-            let pairs = it.equal_roots.iter().map(|(one, other)| format!("{one} and {other}"));
+            let pairs = it.run.iter().flat_map(|run| &run.equal_roots).map(|(one, other)| format!("{one} and {other}"));
             it.found(format!("the same root: {}", pairs.collect::<Vec<_>>().join(", ")))
         };
         Ok(with.iter().map(of).collect())
@@ -439,28 +516,22 @@ impl Reader {
 
     fn changed(&self) -> Result<Vec<Found>, End> {
         let of = |row: &Row| {
-            let key = path_of(row.get_ref("path")?);
-            let (digest, said): (Option<String>, String) = (row.get("sha256")?, row.get("said")?);
-            let by: (String, Option<String>) = (row.get("library")?, row.get("program")?);
-            Ok((row.get::<_, Option<u32>>("number")?, key, digest, said, by))
+            let key = (row.get::<_, Option<u32>>("number")?, path_in(row, "path")?);
+            let told = (row.get::<_, Option<String>>("sha256")?, row.get::<_, String>("said")?);
+            Ok((key, told, row.get::<_, String>("library")?))
         };
-        let order = "SELECT * FROM turned WHERE path IS NOT NULL ORDER BY source, path, turn";
-        let all = self.rows(order, of)?;
+        let all = self.rows(TURNED, of)?;
         let mut found = vec![];
         for two in all.windows(2) {
-            let [(number, path, was, before, by), (_, same, is, now, _)] = two else { continue };
-            if path != same || (was, before) == (is, now) {
+            let [(key, was, by), (same, is, _)] = two else { continue };
+            if key != same || was == is {
                 continue;
             }
             let why =
-                if was == is { format!("the same bytes, judged before by {}", by.0) } else { "other bytes".into() };
-            let files = if number.is_some() { vec![] } else { vec![path.clone()] };
-            found.push(Found {
-                number: *number,
-                files,
-                said: format!("{now}, before {before}: {why}"),
-                ..Found::default()
-            });
+                if was.0 == is.0 { format!("the same bytes, judged before by {by}") } else { "other bytes".into() };
+            let said = format!("{}, before {}: {why}", is.1, was.1);
+            let (number, files) = (key.0, key.1.iter().cloned().collect());
+            found.push(Found { number, files, said, ..Found::default() });
         }
         let order = "SELECT path, said FROM files WHERE gone ORDER BY path";
         found.extend(self.rows(order, |row| {
@@ -559,12 +630,15 @@ mod tests {
         let path = folder.join("index");
         let (run, file) = ("a".repeat(64), "d".repeat(64));
         let rows = format!(
-            "DELETE FROM files; DELETE FROM answers; DELETE FROM accused; DELETE FROM earlier;
-            INSERT INTO convictions VALUES (7, 1, 'K1', '0/7.node-1.evidence');
+            "DELETE FROM files; DELETE FROM runs; DELETE FROM convictions; DELETE FROM earlier;
+            INSERT INTO convictions VALUES (1, 1, 'K1', 0, '{run}', '0/7.node-1.evidence');
             INSERT INTO changes VALUES (1, 7, 'no', NULL, '[]', '[]', NULL, NULL, 'a', 1);
-            INSERT INTO runs VALUES (7, '{run}', 'agreed', 0, '[]', '[]', '[]', '0/7.bundle.zst', '{file}', 9, 5, 'a', 2, '[3,0,1,2]'),
-            (8, '{run}', 'gap', NULL, '[0]', '[]', '[0]', NULL, NULL, NULL, NULL, 'a', 2, '[0,1,2,3]');
-            INSERT INTO stored VALUES ('0/7.bundle.zst', 7, '{file}', NULL, NULL), ('0/7.node-1.evidence', 7, '{run}', 1, 'K1');"
+            INSERT INTO runs VALUES (1, 'watcher', 7, '{run}', '[3,0,1,2]', 4, 1, 'agreed', 0, '[]', '[]', '[]', '[2]',
+            '[\"N1 general 3\"]', '[]', '0/7.bundle.zst', 0, 'a', 2), (2, 'watcher', 8, '{run}', '[0,1,2,3]', 4, 1, 'gap', NULL,
+            '[0]', '[]', '[0]', '[]', '[]', '[]', NULL, 0, 'a', 2);
+            INSERT INTO files (path, source, holds, number, node, kind, bytes, sha256, input, library, judged) VALUES
+            ('0/7.bundle.zst', 'watcher', 'runs', 7, NULL, NULL, 5, '{file}', '{run}', 'a', 2),
+            ('0/7.node-1.evidence', 'watcher', 'evidence', 7, 1, 'K1', 5, '{run}', NULL, 'a', 2);"
         );
         Connection::open(&path).and_then(|index| index.execute_batch(&rows)).expect("an index");
         let reader = Reader::open(&path).expect("an index");
@@ -574,7 +648,12 @@ mod tests {
         assert_eq!(reader.ask(Question::Convictions, Range::default()).expect("an answer")[0].general, Some(2));
         let changed = ["run 7: agreed 0, before no: other bytes"];
         assert_eq!(lines(&reader, Question::Changed, Range::default()), changed);
-        assert_eq!(reader.kept(Kept::is_there).expect("rows").len(), 1);
+        let there = reader.kept(Kept::is_there).expect("rows");
+        let run = there[0].run.as_ref().expect("a run");
+        assert_eq!(
+            (there.len(), &run.suspected[..], &run.findings[..]),
+            (1, &[2][..], &["N1 general 3".to_owned()][..])
+        );
         let digests = reader.digests().expect("rows");
         let told: Vec<_> = digests.iter().map(|it| (it.path.to_str(), it.number, it.evidence.clone())).collect();
         let evidence = Some((1, "K1".to_owned()));

@@ -4,21 +4,17 @@
 //! are judged. So a program that is killed and started again makes the index that another would have made at once.
 
 use std::collections::{BTreeMap, HashMap, HashSet};
-use std::ffi::OsString;
-use std::os::unix::ffi::{OsStrExt, OsStringExt};
 use std::path::{Path, PathBuf};
 use std::sync::Arc;
 
-use rusqlite::types::{Type, Value, ValueRef};
-use rusqlite::{params, Connection, OptionalExtension, Row, Transaction};
+use rusqlite::types::Value;
+use rusqlite::{params, Connection, OptionalExtension, Transaction};
 
 use super::files::Stamp;
-use super::judged::{Admissions, Answer, Run};
 use crate::config::Id;
-use crate::watch::index;
+use crate::index::judged::{Admissions, Answer};
+use crate::index::{self, in_one, path_of, value_of, Asked, Run};
 use crate::{clock, End};
-
-type Asked<T> = rusqlite::Result<T>;
 
 /// Who answers: the version of the library, and the SHA-256 of the program that has it.
 #[derive(Debug, Clone, PartialEq, Eq)]
@@ -61,30 +57,6 @@ pub struct Admission {
 pub struct Store {
     database: Connection,
     path: PathBuf,
-}
-
-/// A path as the database has it.
-pub fn value_of(path: &Path) -> Value {
-    match path.to_str() {
-        Some(text) => Value::Text(text.to_owned()),
-        None => Value::Blob(path.as_os_str().as_bytes().to_vec()),
-    }
-}
-
-/// The path of a value.
-pub fn path_of(value: ValueRef) -> PathBuf {
-    let bytes = value.as_bytes().unwrap_or_default().to_vec();
-    PathBuf::from(OsString::from_vec(bytes))
-}
-
-fn text(of: &impl serde::Serialize) -> String {
-    serde_json::to_string(of).unwrap_or_default()
-}
-
-/// A list in a column.
-pub fn list<T: serde::de::DeserializeOwned>(row: &Row, column: &str) -> Asked<Vec<T>> {
-    let failed = |told| rusqlite::Error::FromSqlConversionFailure(0, Type::Text, Box::new(told));
-    serde_json::from_str(&row.get::<_, String>(column)?).map_err(failed)
 }
 
 impl Store {
@@ -167,13 +139,14 @@ impl Store {
     /// What the index has of each file. `is_new` says that admissions have come whose runs are not known.
     pub fn before(&self, judge: &Judge, is_new: bool) -> Result<BTreeMap<PathBuf, Before>, End> {
         let read = || -> Asked<BTreeMap<PathBuf, Before>> {
-            let order = "SELECT DISTINCT answers.path FROM answers LEFT JOIN admitted USING (run_id)
-                WHERE answers.number IS NULL AND (?1 OR admitted.run_id IS NOT NULL)";
+            let order = "SELECT DISTINCT runs.path FROM runs LEFT JOIN admitted USING (run_id)
+                WHERE source = 'archive' AND runs.number IS NULL AND (?1 OR admitted.run_id IS NOT NULL)";
             let mut asked = self.database.prepare(order)?;
             let open = asked.query_map([is_new], |row| Ok(path_of(row.get_ref(0)?)))?;
             let open: HashSet<PathBuf> = open.collect::<Asked<_>>()?;
-            let mut asked =
-                self.database.prepare("SELECT path, bytes, modified, sha256, library, program, gone FROM files")?;
+            let order =
+                "SELECT path, bytes, modified, sha256, library, program, gone FROM files WHERE source = 'archive'";
+            let mut asked = self.database.prepare(order)?;
             let rows = asked.query_map([], |row| {
                 let (path, sha256) = (path_of(row.get_ref(0)?), row.get::<_, Option<String>>(3)?);
                 let by = Judge { library: row.get(4)?, program: row.get(5)? };
@@ -196,7 +169,7 @@ impl Store {
     /// Marks the files below folders that are not among those which were found there.
     pub fn mark_gone(&mut self, gone: &[&PathBuf]) -> Result<(), End> {
         let mark = |all: &Transaction| {
-            let mut marked = all.prepare("UPDATE files SET gone = 1 WHERE path = ?")?;
+            let mut marked = all.prepare("UPDATE files SET gone = 1 WHERE source = 'archive' AND path = ?")?;
             gone.iter().try_for_each(|path| marked.execute([value_of(path)]).map(drop))
         };
         let marked = in_one(&mut self.database, mark);
@@ -211,14 +184,6 @@ impl Store {
         let closed = self.database.close().map_err(|(_, told)| told);
         closed.map_err(|told| End::unusable(self.path.display(), &index::failed(told)))
     }
-}
-
-/// Does several things in one transaction.
-fn in_one<T>(database: &mut Connection, act: impl FnOnce(&Transaction) -> Asked<T>) -> Asked<T> {
-    let all = database.transaction()?;
-    let told = act(&all)?;
-    all.commit()?;
-    Ok(told)
 }
 
 /// Does a statement that is done for many files.
@@ -236,17 +201,33 @@ fn put(all: &Transaction, judge: &Judge, path: &Path, outcome: &Outcome, now: i6
         }
         Outcome::Judged { stamp, sha256, answer } => {
             let said = answer.as_ref().map_or_else(String::clone, Answer::said);
-            let input = answer.as_ref().ok().map(|it| &it.input);
             keep_earlier(all, judge, &key, (sha256.as_ref(), &said))?;
-            let (fault, json) = (answer.as_ref().err(), answer.as_ref().ok().map(|it| &it.json));
-            let (library, program) = (&judge.library, &judge.program);
-            let row =
-                params![key, stamp.bytes, stamp.modified, sha256, input, said, fault, json, library, program, now];
-            execute(all, "INSERT OR REPLACE INTO files VALUES (?, ?, ?, ?, ?, ?, ?, ?, ?, ?, ?, 0)", row)?;
-            execute(all, "DELETE FROM answers WHERE path = ?", [&key])?;
-            execute(all, "DELETE FROM accused WHERE path = ?", [&key])?;
-            for (place, run) in (0..).zip(answer.iter().flat_map(|it| &it.runs)) {
-                put_run(all, &key, place, run)?;
+            let (fault, answer) = (answer.as_ref().err(), answer.as_ref().ok());
+            let row = params![
+                key,
+                stamp.bytes,
+                stamp.modified,
+                sha256,
+                answer.map(|it| &it.input),
+                answer.map(|it| it.bytes),
+                said,
+                fault,
+                answer.map(|it| &it.json),
+                judge.library,
+                judge.program,
+                now
+            ];
+            execute(
+                all,
+                "INSERT OR REPLACE INTO files (path, source, holds, bytes, modified, sha256, input, input_bytes, said, fault,
+                 answer, library, program, judged) VALUES (?, 'archive', 'runs', ?, ?, ?, ?, ?, ?, ?, ?, ?, ?, ?)",
+                row,
+            )?;
+            let of_file = "SELECT id FROM runs WHERE source = 'archive' AND path = ?";
+            execute(all, &format!("DELETE FROM convictions WHERE run IN ({of_file})"), [&key])?;
+            execute(all, "DELETE FROM runs WHERE source = 'archive' AND path = ?", [&key])?;
+            for run in answer.iter().flat_map(|it| &it.runs) {
+                Run { path: Some(path.to_owned()), judged: now, ..run.clone() }.put(all, None)?;
             }
         }
     }
@@ -276,32 +257,6 @@ fn keep_earlier(all: &Transaction, judge: &Judge, key: &Value, now: (Option<&Str
     Ok(())
 }
 
-fn put_run(all: &Transaction, key: &Value, place: u32, run: &Run) -> Asked<()> {
-    let (number, nodes) = (run.admitted.as_ref().map(|it| it.0), run.admitted.as_ref().map(|it| text(&it.1)));
-    let (listed, missing, suspected) = (text(&run.listed), text(&run.missing), text(&run.suspected));
-    let (findings, equal_roots) = (run.findings.to_string(), text(&run.equal_roots));
-    let of = params![
-        key,
-        place,
-        run.run_id,
-        number,
-        nodes,
-        run.verdict,
-        run.value,
-        listed,
-        missing,
-        suspected,
-        findings,
-        equal_roots
-    ];
-    execute(all, "INSERT INTO answers VALUES (?, ?, ?, ?, ?, ?, ?, ?, ?, ?, ?, ?)", of)?;
-    for it in &run.accused {
-        let of = params![key, place, it.node, it.kind, it.other, it.root];
-        execute(all, "INSERT INTO accused VALUES (?, ?, ?, ?, ?, ?)", of)?;
-    }
-    Ok(())
-}
-
 #[cfg(test)]
 pub mod tests {
     use super::*;
@@ -318,11 +273,13 @@ pub mod tests {
         let convicted = if is_convicted { r#"{"general":1,"id":"K2"}"# } else { "" };
         let json = format!(
             r#"{{"admitted":{{"runs":[{}]}},"convictions":[{convicted}],"equal_roots":[],"faulty":[],"findings":[],
-            "input":{{"sha256":"{run_id}"}},"logs":[],"order":1,"run":"{run_id}","statuses":[],"verdict":"{verdict}"}}"#,
+            "input":{{"bytes":9,"sha256":"{run_id}"}},"logs":[],"network":{{"generals":3,"traitors":1}},"order":1,
+            "run":"{run_id}","statuses":[],"verdict":"{verdict}"}}"#,
             admitted.unwrap_or_default()
         );
-        let mut answer = Answer::of(json).expect("an answer");
-        answer.runs[0].accused.iter_mut().for_each(|it| it.root = "e".repeat(64));
+        let finding = if verdict == "no" { "N8 from 0 to 2 round 1 order 1\n" } else { "" };
+        let mut answer = Answer::read(json, &format!("run {run_id}\n{finding}end\n")).expect("an answer");
+        answer.runs[0].convicted.iter_mut().for_each(|it| it.root = "e".repeat(64));
         Outcome::Judged { stamp: Stamp { bytes: 9, modified: 1 }, sha256: Some(run_id), answer: Ok(answer) }
     }
 
@@ -346,7 +303,7 @@ pub mod tests {
         let mut write = |by: &str, outcome| {
             store.write(&judge(by), &[(file.clone(), outcome)]).expect("a disk");
             let before = store.before(&judge("b"), false).expect("a disk");
-            (count(&store, "answers"), count(&store, "accused"), count(&store, "earlier"), before[&file].is_current)
+            (count(&store, "runs"), count(&store, "convictions"), count(&store, "earlier"), before[&file].is_current)
         };
         assert_eq!(write("a", judged('1', Some(3), "agreed", true)), (1, 1, 0, false));
         assert_eq!(write("a", judged('1', Some(3), "agreed", true)), (1, 1, 0, false));

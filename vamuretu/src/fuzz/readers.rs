@@ -329,16 +329,18 @@ fn value_of(column: &str, kind: &str, number: u32) -> String {
     let digest = format!("{number:x}").repeat(64);
     match column {
         "run_id" | "sha256" | "input" | "root" | "program" => format!("'{digest}'"),
+        "source" => "'watcher'".into(),
+        "holds" => "'runs'".into(),
         "verdict" => "'no'".into(),
-        "listed" | "missing" | "suspected" => format!("'[{}]'", number % 4),
+        "assumed_faulty" | "missing" | "suspected" => format!("'[{}]'", number % 4),
         "others" => "'[[0],[2]]'".into(),
         "nodes" if kind == "TEXT" => "'[0,1,2,3]'".into(),
         "equal_roots" => "'[[0,1]]'".into(),
-        "findings" => "'[{\"id\":\"N8\"}]'".into(),
-        "path" => format!("'0000000/{number}.bundle.zst'"),
+        "findings" => "'[\"N8 from 0 to 2 round 1 order 1\"]'".into(),
+        "path" | "evidence" => format!("'0000000/{number}.bundle.zst'"),
         "kind" => "'K2'".into(),
         "fault" | "told" => "NULL".into(),
-        "node" | "value" | "gone" => "0".into(),
+        "node" | "decided" | "gone" => "0".into(),
         _ if kind == "TEXT" => "'{}'".into(),
         _ => number.to_string(),
     }
@@ -401,7 +403,8 @@ fn ask_all(path: &Path) {
             index.untold(9),
             index.replaced(9),
             index.run(3),
-            index.convicted(3),
+            index.changes(3),
+            index.as_change(3),
             index.waiting(3),
         );
     });
@@ -456,7 +459,7 @@ mod tests {
         assert_eq!(node::keys::read_mark(MARK, &[0x5e; 32]), Some(Some(17)));
         with_file("index", &indexed(), |path| {
             let reader = read::Reader::open(path).unwrap_or_else(|end| panic!("{end}"));
-            assert_eq!(reader.ask(Question::Convictions, Range::default()).map(|it| it.len()), Ok(4));
+            assert_eq!(reader.ask(Question::Convictions, Range::default()).map(|it| it.len()), Ok(2));
         });
     }
 }

@@ -7,6 +7,8 @@ use std::fmt::Write;
 #[derive(Debug, Clone, Copy, PartialEq, Eq, PartialOrd, Ord)]
 pub enum State {
     Agreed,
+    /// Too few nodes are not assumed faulty to speak for the correct nodes.
+    Few,
     Explained,
     Gap,
     No,
@@ -26,7 +28,8 @@ impl State {
     fn of(self) -> (&'static str, &'static str, &'static str) {
         match self {
             State::Agreed => ("agreed", "", "agreed"),
-            State::Explained => ("explained", "e", "explained: more nodes are set aside than planned for"),
+            State::Few => ("few", "f", "agreed, but too few nodes speak for the correct nodes"),
+            State::Explained => ("explained", "e", "explained: more nodes are assumed faulty than planned for"),
             State::Gap => ("gap", "?", "no file that can be judged"),
             State::No => ("no", "N", "no: the logs do not fit together"),
             State::Convicted => ("convicted", "K", "a node is convicted"),

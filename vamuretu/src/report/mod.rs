@@ -17,7 +17,7 @@ use crate::archive::id_of;
 use crate::archive::read::Range;
 use crate::config::{from_toml, Id};
 use crate::text::quoted;
-use crate::{disk, End};
+use crate::{clock, disk, End};
 use page::Page;
 
 /// What a file of SQLite begins with.
@@ -32,16 +32,16 @@ pub struct Report {
     /// The file of the page
     #[arg(long, value_name = "FILE")]
     out: PathBuf,
-    /// A TOML file with names of nodes, each in a line as 2 = "Pump house"
-    #[arg(long, value_name = "FILE")]
+    /// A TOML file with names of nodes, each in a line as 2 = "Pump house", for runs that --run or --system pins
+    #[arg(long, value_name = "FILE", requires = "pin")]
     names: Option<PathBuf>,
-    /// The run id that is known from elsewhere, of a campaign all of them in their order
-    #[arg(long, value_name = "ID", value_parser = id_of, conflicts_with = "system")]
+    /// The run id that is known from elsewhere, of a campaign all of them in their order; not of an index
+    #[arg(long, value_name = "ID", value_parser = id_of, group = "pin")]
     run: Vec<Id>,
-    /// The id of the system that the file is of
-    #[arg(long, value_name = "ID", value_parser = id_of, requires = "admissions")]
+    /// The id of the system that the file or the index is of
+    #[arg(long, value_name = "ID", value_parser = id_of, group = "pin")]
     system: Option<Id>,
-    /// An admission, or a folder of them, each named R.admission for the number R of a run of its set
+    /// An admission, or a folder of them, each named R.admission for the number R of a run of its set; an index has its own
     #[arg(long, value_name = "PATH", requires = "system")]
     admissions: Vec<PathBuf>,
     /// The folder that a watcher keeps, otherwise that of its index
@@ -87,6 +87,19 @@ impl Names {
     }
 }
 
+/// The program's own sentences on a line, with what it names.
+fn sentences(line: &str) -> String {
+    let told = vamuretu::words(format!("{line}\n").as_bytes()).unwrap_or_default();
+    let told = String::from_utf8_lossy(&told);
+    told.lines().skip(1).map(str::trim).collect::<Vec<_>>().join(" ")
+}
+
+/// A moment as people write it.
+fn moment(ms: i64) -> String {
+    let since = std::time::Duration::from_millis(ms.max(0) as u64);
+    humantime::format_rfc3339_seconds(std::time::UNIX_EPOCH + since).to_string()
+}
+
 /// The program's own sentence on a name.
 fn sentence(name: &str) -> String {
     let told = vamuretu::explain(name).ok().flatten().unwrap_or_default();
@@ -124,9 +137,10 @@ fn signing(page: &mut Page, out: &Path) {
     page.code(&worth::CHECKING.replace("NAME", &name));
 }
 
-/// By which program the page was made.
+/// By which program the page was made, and when.
 fn close(page: &mut Page) {
-    page.text(&format!("Written by vamuretu {}.", env!("CARGO_PKG_VERSION")));
+    let (version, now) = (env!("CARGO_PKG_VERSION"), moment(clock::now_ms()));
+    page.text(&format!("Written by vamuretu {version} at {now}, by the clock of that machine."));
 }
 
 /// Writes a page.
@@ -145,6 +159,11 @@ pub fn write(asked: &Report) -> Result<(), End> {
 #[cfg(test)]
 mod tests {
     use super::*;
+
+    #[test]
+    fn moments() {
+        assert_eq!(moment(1_798_761_600_000), "2027-01-01T00:00:00Z");
+    }
 
     #[test]
     fn names_for_a_shell() {

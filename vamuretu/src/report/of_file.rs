@@ -1,35 +1,39 @@
 //! The page on a bundle or a campaign.
 
-use std::collections::BTreeSet;
+use std::collections::BTreeMap;
 use std::path::Path;
 
-use vamuretu::{Expected, RunId};
+use vamuretu::{Fault, Judged};
 
 use super::page::{Field, Page};
-use super::{close, sentence, signing, worth, Names, Report};
+use super::{close, moment, sentence, signing, worth, Names, Report};
+use crate::archive::admissions_of;
 use crate::archive::files;
-use crate::archive::judged::{Admissions, Answer, Run};
 use crate::archive::room::Rooms;
-use crate::archive::{admissions_of, judged};
+use crate::clock;
+use crate::index::judged::Answer;
+use crate::index::{Run, Verdict};
 use crate::text::spelled;
 use crate::End;
 
-/// What is known of whose run a file is.
-struct Known<'a> {
-    admissions: Admissions,
-    runs: &'a [RunId],
-}
-
-impl Known<'_> {
-    /// What the input is expected to be of.
-    fn expected(&self, input: &[u8]) -> Expected<'_> {
-        let first = vamuretu::run_ids(input).ok().flatten().and_then(|ids| ids.first().copied());
-        let own = first.and_then(|id| self.admissions.of_runs.get(&id));
-        match own.or(self.admissions.others.first()) {
-            Some(admission) => Expected::Admitted { admission, system: self.admissions.system.as_ref() },
-            None => Expected::Runs(self.runs),
-        }
+/// Judges the file by what is known of it from elsewhere.
+fn judge(asked: &Report, input: &[u8]) -> Result<Judged, End> {
+    let wrong = |told: Fault| End::fault(&asked.of, told);
+    let Some(system) = asked.system else { return Judged::of(&asked.run, input).map_err(wrong) };
+    if asked.admissions.is_empty() {
+        return Err(End::failed("--system says nothing of a bundle without --admissions"));
     }
+    let admissions = admissions_of(&asked.admissions, system)?;
+    let judged = admissions.judge(input).map_err(wrong)?;
+    // A file that has a fault has it before an admission is asked for.
+    judged.map_or_else(
+        || {
+            Judged::of(&[], input)
+                .map_err(wrong)
+                .and_then(|_| Err(End::fault(&asked.of, "no admission shows this run")))
+        },
+        Ok,
+    )
 }
 
 /// The page on a file.
@@ -37,33 +41,22 @@ pub fn page(asked: &Report, names: &Names) -> Result<Page, End> {
     let rooms = Rooms::default();
     let content = files::read(&asked.of, &rooms).map_err(End::file(&asked.of))?;
     let input = content.input.map_err(|told| End::fault(&asked.of, told))?;
-    let wrong = |told: vamuretu::Fault| End::fault(&asked.of, told);
-    let admissions = match asked.system {
-        Some(system) => admissions_of(&asked.admissions, system)?,
-        None => Admissions::default(),
-    };
-    let known = Known { admissions, runs: &asked.run };
-    let expected = known.expected(&input);
-    if asked.system.is_some() && matches!(expected, Expected::Runs(_)) {
-        return Err(End::fault(&asked.of, "no admission shows this run"));
-    }
-    let text = vamuretu::audit_of(expected, false, &input).map_err(wrong)?;
-    let json = vamuretu::audit_json(expected, &input).map_err(wrong)?;
-    let answer = judged::Answer::on(&input, json).map_err(wrong)?;
+    let wrong = |told: Fault| End::fault(&asked.of, told);
+    let judged = judge(asked, &input)?;
+    let answer = Answer::of(&judged, &input).map_err(wrong)?;
     let mut page = Page::new(&format!("Report on {}", spelled(asked.of.file_name().unwrap_or_default())));
-    let (is_alone, none) = (matches!(expected, Expected::Runs([])), Names::default());
-    let names = if is_alone { &none } else { names };
-    if is_alone {
-        page.verdict(false, worth::ALONE);
+    if asked.run.is_empty() && asked.system.is_none() {
+        page.verdict(false, &[worth::ALONE]);
     }
     said(&mut page, &answer, names);
     page.text(worth::AGREED);
     convicted(&mut page, &answer, names, &asked.of);
     page.head("In the program's own words");
-    page.code(&String::from_utf8_lossy(&vamuretu::words(text.text().as_bytes()).map_err(wrong)?));
+    let text = judged.text().and_then(|text| vamuretu::words(text.as_bytes())).map_err(wrong)?;
+    page.code(&String::from_utf8_lossy(&text));
     page.head("A picture");
     let what = format!("The logs, round by round, and what was found.{}", generals(&answer, names));
-    page.picture(&what, &vamuretu::draw_of(expected, &input).map_err(wrong)?);
+    page.picture(&what, &judged.picture().map_err(wrong)?);
     judged_by(&mut page, asked, content.stored.unwrap_or_else(|| answer.input.clone()), answer.input);
     Ok(page)
 }
@@ -76,6 +69,7 @@ fn judged_by(page: &mut Page, asked: &Report, stored: String, input: String) {
         ("SHA-256 of the file", stored),
         ("SHA-256 of what was judged", input),
         ("Library", vamuretu::version()),
+        ("When, by the clock of that machine", moment(clock::now_ms())),
     ];
     let rows: Vec<Vec<Field>> = rows.into_iter().map(|(name, value)| vec![name.into(), Field::Code(value)]).collect();
     page.table(&["", ""], &rows);
@@ -83,39 +77,31 @@ fn judged_by(page: &mut Page, asked: &Report, stored: String, input: String) {
     close(page);
 }
 
-/// The node that each general of a run is, if an admission shows it.
-fn nodes_of(run: &Run) -> &[u32] {
-    run.admitted.as_ref().map_or(&[], |it| &it.1)
-}
-
 /// Which node each general is, run by run.
 fn generals(answer: &Answer, names: &Names) -> String {
-    let of = |run: &Run| match &run.admitted {
-        Some((number, nodes)) => format!(" Run {number}:{}", names.generals(nodes)),
+    let of = |run: &Run| match run.number {
+        Some(number) => format!(" Run {number}:{}", names.generals(&run.nodes)),
         None => String::new(),
     };
     answer.runs.iter().map(of).collect()
 }
 
-/// The verdicts, run by run.
+/// The verdicts, run by run. A run is well if all agreed, nobody is convicted, and enough nodes speak for the correct ones.
 fn said(page: &mut Page, answer: &Answer, names: &Names) {
     for run in &answer.runs {
-        let number = run.admitted.as_ref().map_or_else(|| format!("Run {}", run.run_id), |it| format!("Run {}", it.0));
-        let value = run.value.map_or_else(String::new, |value| format!(" The value is {value}."));
-        let who = run.accused.iter().map(|it| format!("{} by {}", names.in_run(it.node, nodes_of(run)), it.kind));
-        let convicted = match run.accused.is_empty() {
-            true => "Nobody is convicted.".to_owned(),
-            false => format!("Signatures convict {}.", who.collect::<Vec<_>>().join("; ")),
-        };
-        let is_well = run.verdict == "agreed" && run.accused.is_empty();
-        page.verdict(
-            is_well,
-            &format!("{number}: {}. {}{value} {convicted}", run.verdict, worth::verdict(&run.verdict)),
-        );
-        let nodes =
-            |nodes: &[u32]| nodes.iter().map(|it| names.in_run(*it, nodes_of(run))).collect::<Vec<_>>().join("; ");
+        let number = run.number.map_or_else(|| run.run_id.clone(), |number| number.to_string());
+        let order = run.order.map_or_else(String::new, |order| format!(" The order is {order}."));
+        let mut lines = vec![format!("Run {number}: {}. {}{order}", run.verdict, worth::verdict(run.verdict))];
+        lines.extend((!run.speaks()).then(|| worth::few(run.speaking())));
+        let convicted = |node, kind: &str| format!("Signatures convict {} by {kind}.", names.in_run(node, &run.nodes));
+        lines.extend(run.convicted.iter().map(|it| convicted(it.node, &it.kind)));
+        if run.convicted.is_empty() {
+            lines.push("Nobody is convicted.".into());
+        }
+        page.verdict(run.verdict == Verdict::Agreed && run.convicted.is_empty() && run.speaks(), &lines);
+        let nodes = |nodes: &[u32]| nodes.iter().map(|it| names.in_run(*it, &run.nodes)).collect::<Vec<_>>().join("; ");
         for (what, these) in [
-            ("Set aside as faulty", &run.listed),
+            ("Assumed faulty", &run.assumed_faulty),
             ("Without a log", &run.missing),
             ("Named by findings", &run.suspected),
         ] {
@@ -128,26 +114,29 @@ fn said(page: &mut Page, answer: &Answer, names: &Names) {
 
 /// Who is convicted, and what that is worth.
 fn convicted(page: &mut Page, answer: &Answer, names: &Names, file: &Path) {
-    let (mut rows, mut commands): (Vec<Vec<Field>>, Vec<String>) = (vec![], vec![]);
-    let mut met = BTreeSet::new();
-    let ids: Vec<String> = answer.runs.iter().map(|run| run.run_id.clone()).collect();
-    for run in &answer.runs {
-        for it in &run.accused {
-            let said = vec![worth::kind(&it.kind).into(), format!("{}: {}", it.kind, sentence(&it.kind))];
-            let who = vec![names.in_run(it.node, nodes_of(run)), format!("root {}", it.root)];
-            rows.push(vec![Field::Lines(who), Field::Code(run.run_id.clone()), Field::Lines(said)]);
-            let general = run.general_of(it.node);
-            if met.insert(general) {
-                let number = run.admitted.as_ref().map(|_| it.node);
-                commands.push(super::commands(general, number, &run.run_id, &ids, file));
-            }
+    let mut rows: Vec<Vec<Field>> = vec![];
+    // The evidence of a general is that of the first run that convicts it alone, or else across two runs.
+    let mut first: BTreeMap<u32, (bool, u32, &Run)> = BTreeMap::new();
+    for (run, it) in answer.runs.iter().flat_map(|run| run.convicted.iter().map(move |it| (run, it))) {
+        let said = vec![worth::kind(&it.kind).into(), format!("{}: {}", it.kind, sentence(&it.kind))];
+        let who = vec![names.in_run(it.node, &run.nodes), format!("root {}", it.root)];
+        rows.push(vec![Field::Lines(who), Field::Code(run.run_id.clone()), Field::Lines(said)]);
+        let this = (it.other != run.place, it.node, run);
+        let best = first.entry(run.general_of(it.node)).or_insert(this);
+        if this.0 < best.0 {
+            *best = this;
         }
     }
-    if !rows.is_empty() {
-        page.head("Who is convicted, and what that is worth");
-        page.table(&["Who", "Run", "What for"], &rows);
-        page.list(&worth::CONVICTION);
-        page.text(worth::CHECKED);
-        page.code(&commands.join("\n"));
+    if rows.is_empty() {
+        return;
     }
+    let ids: Vec<String> = answer.runs.iter().map(|run| run.run_id.clone()).collect();
+    let command = |(general, (_, node, run)): (u32, (bool, u32, &Run))| {
+        super::commands(general, run.number.map(|_| node), &run.run_id, &ids, file)
+    };
+    page.head("Who is convicted, and what that is worth");
+    page.table(&["Who", "Run", "What for"], &rows);
+    page.list(&worth::CONVICTION);
+    page.text(worth::CHECKED);
+    page.code(&first.into_iter().map(command).collect::<Vec<_>>().join("\n"));
 }

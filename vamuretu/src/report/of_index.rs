@@ -7,11 +7,12 @@ use sha2::{Digest as _, Sha256};
 
 use super::line::{self, State};
 use super::page::{Field, Page};
-use super::{close, commands, counted, sentence, signing, worth, Names, Report};
+use super::{close, commands, counted, moment, sentence, sentences, signing, worth, Names, Report};
 use crate::archive::digest_line;
 use crate::archive::files;
 use crate::archive::read::{Digest, Found, Kept, Question, Reader, Who};
 use crate::archive::room::Rooms;
+use crate::index::{Run, Verdict};
 use crate::text::{quoted, spelled};
 use crate::watch::judge::digest;
 use crate::End;
@@ -76,7 +77,7 @@ fn called(number: u32, nodes: &[u32], names: &Names) -> String {
 
 impl Told {
     fn read(reader: &Reader, asked: &Report) -> Result<Told, End> {
-        let runs = reader.kept(|it| !it.gone)?;
+        let runs = reader.kept(|it| !it.is_gone())?;
         let bounds = reader.bounds(asked.range)?;
         let gaps = if bounds.is_some() { reader.ask(Question::Gaps, asked.range)? } else { vec![] };
         // Anybody can make a run of keys of their own, so one that no admission shows convicts nobody here.
@@ -84,40 +85,66 @@ impl Told {
         let mut convicted = reader.ask(Question::Convictions, asked.range)?;
         convicted.retain(|it| is_own(it.number));
         let mut states = BTreeMap::new();
-        let numbered = runs.iter().filter(|it| it.is_there());
-        for (place, it) in (0..).zip(numbered) {
-            let number = if bounds.is_some() { it.number } else { Some(place) };
+        let there = || runs.iter().filter(|it| it.is_there()).filter_map(|it| it.run.as_ref());
+        for (place, run) in (0..).zip(there()) {
+            let number = if bounds.is_some() { run.number } else { Some(place) };
             if let Some(number) = number {
                 let worst: &mut State = states.entry(number).or_insert(State::Agreed);
-                *worst = (*worst).max(state_of(it));
+                *worst = (*worst).max(state_of(run));
             }
         }
-        let is_odd = |it: &&Kept| it.is_there() && is_own(it.number) && state_of(it) > State::Agreed;
-        let odd = runs.iter().filter(is_odd).cloned().collect();
-        let is_numberless = !reader.has_admissions && runs.iter().any(|it| it.is_there() && it.number.is_none());
+        let is_odd = |it: &Kept| {
+            it.is_there() && is_own(it.number()) && it.run.as_ref().is_some_and(|run| state_of(run) > State::Agreed)
+        };
+        let odd = runs.iter().filter(|it| is_odd(it)).cloned().collect();
+        let is_numberless = !reader.has_admissions && there().any(|run| run.number.is_none());
         let above = asked.of.parent().map(Path::to_owned).unwrap_or_default();
         let (digests, folder) = (reader.digests()?, asked.folder.clone().unwrap_or(above));
         Ok(Told { runs, convicted, gaps, bounds, states, odd, digests, is_numberless, folder })
     }
 
-    fn count(&self, verdict: &str) -> usize {
-        self.runs.iter().filter(|it| it.verdict.as_deref() == Some(verdict)).count()
+    fn count(&self, verdict: Verdict) -> usize {
+        self.runs.iter().filter(|it| it.verdict() == Some(verdict)).count()
+    }
+
+    /// The agreed runs in which too few nodes speak for the correct ones.
+    fn few(&self) -> usize {
+        let runs = self.runs.iter().filter_map(|it| it.run.as_ref());
+        runs.filter(|run| run.verdict == Verdict::Agreed && !run.speaks()).count()
     }
 }
 
-fn state_of(run: &Kept) -> State {
-    match run.verdict.as_deref() {
+fn state_of(run: &Run) -> State {
+    match run.verdict {
         _ if !run.convicted.is_empty() => State::Convicted,
-        Some("agreed") => State::Agreed,
-        Some("explained") => State::Explained,
-        Some("gap") => State::Gap,
-        _ => State::No,
+        Verdict::Agreed if run.speaks() => State::Agreed,
+        Verdict::Agreed => State::Few,
+        Verdict::Explained => State::Explained,
+        Verdict::Gap => State::Gap,
+        Verdict::No => State::No,
+    }
+}
+
+/// Refuses what says of an index of which system it is, if it is of another one. An index has its own admissions.
+fn check_pin(asked: &Report, reader: &Reader) -> Result<(), End> {
+    if !asked.run.is_empty() || !asked.admissions.is_empty() {
+        return Err(End::failed(
+            "an index has its runs and admissions: --system alone says of which system it has to be",
+        ));
+    }
+    let (wanted, own) = (asked.system.map(hex::encode), reader.system.as_deref().unwrap_or("no id"));
+    match wanted {
+        Some(wanted) if wanted != own => {
+            Err(End::fault(&asked.of, format!("an index of the system {own}, and not {wanted}")))
+        }
+        _ => Ok(()),
     }
 }
 
 /// The page on an index.
 pub fn page(asked: &Report, names: &Names) -> Result<Page, End> {
     let reader = Reader::open(&asked.of)?;
+    check_pin(asked, &reader)?;
     let told = Told::read(&reader, asked)?;
     let mut page = Page::new("Report on an archive of runs");
     let others = [Question::Faults, Question::Doubles, Question::Unknown, Question::EqualRoots, Question::Changed];
@@ -158,12 +185,13 @@ pub fn page(asked: &Report, names: &Names) -> Result<Page, End> {
 /// How runs get their numbers, if they have none.
 fn numberless(page: &mut Page, told: &Told, index: &Path) {
     if told.is_numberless {
-        page.verdict(false, worth::NUMBERLESS);
+        page.verdict(false, &[worth::NUMBERLESS]);
         page.code(&format!("vamuretu archive add {} --system ID --admissions FOLDER", quoted(index)));
     }
 }
 
-/// What a reader takes away: who is convicted in which runs, and what else there is.
+/// What a reader takes away: who is convicted in which runs, a line each, and what else there is. Over runs that no admission shows
+/// nothing is added up.
 fn in_short(page: &mut Page, told: &Told, names: &Names, counts: &[(&str, &Vec<Found>)]) {
     let mut by: BTreeMap<&Who, Vec<&Found>> = BTreeMap::new();
     for it in &told.convicted {
@@ -171,55 +199,65 @@ fn in_short(page: &mut Page, told: &Told, names: &Names, counts: &[(&str, &Vec<F
     }
     let more = by.len().saturating_sub(FEW);
     let convicted = by.into_iter().take(FEW).map(|(who, found)| convicted_in(who, &found, names));
-    let more = (more > 0).then(|| format!("{more} more"));
-    let convicted: Vec<String> = convicted.chain(more).collect();
-    let convicted = match convicted.is_empty() {
-        true => "No node is convicted by its signatures.".into(),
-        false => format!("Signatures convict {}.", convicted.join(", and ")),
-    };
+    let mut lines: Vec<String> = convicted.map(|it| format!("Signatures convict {it}.")).collect();
+    if lines.is_empty() {
+        lines.push("No node is convicted by its signatures.".into());
+    }
+    lines.extend((more > 0).then(|| format!("Signatures convict {more} more.")));
+    lines.extend((!told.is_numberless).then(|| sums(told)));
+    let few = told.few();
+    lines.extend((few > 0).then(|| {
+        format!("In {} too few nodes speak for the correct nodes.", counted(few, "agreed run", "agreed runs"))
+    }));
+    let is_well = told.odd.is_empty() && counts.iter().all(|it| it.1.is_empty());
+    lines.push(if is_well { "Nothing else was found." } else { "What else was found stands below." }.into());
+    page.verdict(is_well, &lines);
+}
+
+/// How many runs were judged, and how many are missing.
+fn sums(told: &Told) -> String {
     let all = told.runs.iter().filter(|it| it.is_there()).count();
-    let judged =
-        format!("{}, and {} agreed.", counted(all, "run was judged", "runs were judged"), told.count("agreed"));
+    let (judged, agreed) = (counted(all, "run was judged", "runs were judged"), told.count(Verdict::Agreed));
     let bounds = told.bounds.map_or_else(String::new, |(first, last)| {
         let missing = counted(count(&told.gaps), "has no file that can be judged", "have no file that can be judged");
         format!(" Of the runs {first} to {last}, {missing}.")
     });
-    let is_well = told.odd.is_empty() && counts.iter().all(|it| it.1.is_empty());
-    let rest = if is_well { "Nothing else was found." } else { "What else was found stands below." };
-    page.verdict(is_well, &format!("{convicted} {judged}{bounds} {rest}"));
+    format!("{judged}, and {agreed} agreed.{bounds}")
 }
 
 /// Who is convicted, in which runs.
 fn convicted_in(who: &Who, found: &[&Found], names: &Names) -> String {
     let runs: BTreeSet<_> = found.iter().map(|it| (it.number, &it.run_id)).collect();
-    let several = counted(runs.len(), "run", "runs");
     let numbers = numbers(found.iter().copied());
-    let only = found.first().filter(|_| runs.len() == 1);
-    match (who, only) {
-        (Who::Root(root), Some(it)) => {
-            let (general, run) = (it.general.unwrap_or_default(), it.run_id.as_deref().unwrap_or_default());
-            format!("the holder of the root {root:.DIGITS$}.., general {general} of the run {run:.DIGITS$}..")
+    match who {
+        Who::Root(root) => {
+            let of = |it: &&Found| {
+                let (general, run) = (it.general.unwrap_or_default(), it.run_id.as_deref().unwrap_or_default());
+                format!("general {general} of the run {run:.DIGITS$}..")
+            };
+            format!("the holder of the root {root:.DIGITS$}..: {}", few(found.iter().map(of).collect()).join(", "))
         }
-        (Who::Root(root), None) => format!("the holder of the root {root:.DIGITS$}.. in {several}"),
-        (Who::Node(node), Some(it)) => {
-            let general = it.general.map_or_else(String::new, |it| format!(", where it is general {it}"));
+        Who::Node(node) if runs.len() == 1 => {
+            let general = found.first().and_then(|it| it.general);
+            let general = general.map_or_else(String::new, |it| format!(", where it is general {it}"));
             format!("{} in run {numbers}{general}", names.of("node", *node))
         }
-        (Who::Node(node), None) if numbers.len() < MOST_NUMBERS => {
+        Who::Node(node) if numbers.len() < MOST_NUMBERS => {
             format!("{} in runs {numbers}", names.of("node", *node))
         }
-        (Who::Node(node), None) => format!("{} in {several}", names.of("node", *node)),
+        Who::Node(node) => format!("{} in {} runs", names.of("node", *node), runs.len()),
     }
 }
 
 /// How much there is of everything.
 fn counts_of(page: &mut Page, told: &Told, counts: &[(&str, &Vec<Found>)]) {
     page.head("All that was found");
-    let row = |it: &str| {
-        let said = vec![worth::verdict(it).into(), format!("{it}: {}", sentence(it))];
+    let row = |it: Verdict| {
+        let said = vec![worth::verdict(it).into(), format!("{it}: {}", sentence(it.word()))];
         vec![format!("Runs with the verdict {it}").into(), told.count(it).to_string().into(), Field::Lines(said)]
     };
-    let mut rows: Vec<Vec<Field>> = ["agreed", "explained", "no"].map(row).into();
+    let verdicts = [Verdict::Agreed, Verdict::Explained, Verdict::No].map(row);
+    let mut rows: Vec<Vec<Field>> = verdicts.into_iter().filter(|_| !told.is_numberless).collect();
     rows.extend(counts.iter().map(|(name, found)| vec![(*name).into(), count(found).to_string().into(), "".into()]));
     page.table(&["", "How many", "What it means"], &rows);
     page.text(worth::AGREED);
@@ -283,8 +321,8 @@ fn commands_of(found: &Found, told: &Told) -> String {
     if let Some(evidence) = &found.evidence {
         return format!("sm_tool evidence --run {} {}", quoted(run), quoted(&told.folder.join(evidence)));
     }
-    // Of a file with several runs, the evidence is that of the first one that convicts this general.
-    let place = |it: &&Found| it.runs.iter().position(|id| Some(id) == it.run_id.as_ref());
+    // Of a file with several runs, the evidence is that of the first one that convicts this general, or else across two runs.
+    let place = |it: &&Found| (it.is_across, it.runs.iter().position(|id| Some(id) == it.run_id.as_ref()));
     let same = told.convicted.iter().filter(|it| it.files == found.files && it.general == found.general);
     let first = same.min_by_key(place).unwrap_or(found);
     let node = match first.who {
@@ -332,30 +370,30 @@ fn evidence(page: &mut Page, told: &Told, names: &Names) {
     page.text(worth::EVIDENCE);
 }
 
-/// Runs that are not agreed, with what was found and whom that names.
+/// Runs that are not agreed, or in which too few nodes speak, with what was found and whom that names.
 fn verdicts(page: &mut Page, told: &Told, names: &Names) {
-    let odd: Vec<&Kept> = told.odd.iter().filter(|it| it.verdict.as_deref() != Some("agreed")).collect();
+    let runs = told.odd.iter().filter_map(|it| it.run.as_ref());
+    let odd: Vec<&Run> = runs.filter(|run| run.verdict != Verdict::Agreed || !run.speaks()).collect();
     if odd.is_empty() {
         return;
     }
-    page.head("Runs that are not agreed");
-    let row = |it: &&Kept| {
-        let nodes = |these: &[u32]| Field::Lines(these.iter().map(|node| called(*node, &it.nodes, names)).collect());
-        let (named, aside) = (nodes(&it.suspected), nodes(&it.listed));
-        let verdict = it.verdict.clone().unwrap_or_default();
-        let findings = it.findings.iter().map(|id| format!("{id}: {}", sentence(id)));
-        let file = it.path.as_deref().map(|path| spelled(path)).unwrap_or_default();
+    page.head("Runs that are not agreed, or in which too few nodes speak");
+    let row = |run: &&Run| {
+        let nodes = |these: &[u32]| Field::Lines(these.iter().map(|node| called(*node, &run.nodes, names)).collect());
+        let few = (!run.speaks()).then(|| worth::few(run.speaking()));
+        let findings = run.findings.iter().map(|line| format!("{line}: {}", sentences(line)));
+        let file = run.path.as_deref().map(|path| spelled(path)).unwrap_or_default();
         vec![
-            run_of(it.number, it.run_id.as_ref()).into(),
-            verdict.into(),
-            Field::Lines(findings.collect()),
-            named,
-            aside,
+            run_of(run.number, Some(&run.run_id)).into(),
+            run.verdict_said().into(),
+            Field::Lines(few.into_iter().chain(findings).collect()),
+            nodes(&run.suspected),
+            nodes(&run.assumed_faulty),
             file.into(),
         ]
     };
     let rows: Vec<Vec<Field>> = odd.iter().take(MOST_ROWS).map(row).collect();
-    page.table(&["Run", "Verdict", "What was found", "Whom that names", "Set aside", "File"], &rows);
+    page.table(&["Run", "Verdict", "What was found", "Whom that names", "Assumed faulty", "File"], &rows);
     more(page, odd.len(), "verdicts");
     page.list(&worth::FINDING);
 }
@@ -369,12 +407,6 @@ fn more(page: &mut Page, count: usize, question: &str) {
     if count > MOST_ROWS {
         page.text(&format!("And {} more: vamuretu archive ask INDEX {question}", count - MOST_ROWS));
     }
-}
-
-/// The program's sentences on the names in a line of a fault.
-fn sentences(line: &str) -> String {
-    let names = line.split(' ').filter(|it| it.len() > 1 && it.as_bytes()[1].is_ascii_digit());
-    names.map(sentence).collect::<Vec<_>>().join(" ")
 }
 
 /// A table of what a question found, unless that is nothing.
@@ -442,17 +474,17 @@ fn line_of_runs(page: &mut Page, told: &Told) {
 
 /// Pictures of the first runs in which something was found, of files that are still as they were judged.
 fn pictures(page: &mut Page, told: &Told, names: &Names) {
-    let mut odd: Vec<&Kept> = told.odd.iter().collect();
-    odd.sort_by_key(|it| std::cmp::Reverse(state_of(it)));
-    odd.dedup_by(|one, other| one.path == other.path);
+    let mut odd: Vec<(&Kept, &Run)> = told.odd.iter().filter_map(|it| Some((it, it.run.as_ref()?))).collect();
+    odd.sort_by_key(|(_, run)| std::cmp::Reverse(state_of(run)));
+    odd.dedup_by(|one, other| one.1.path == other.1.path);
     if !odd.is_empty() {
         page.head("Pictures of the first of these runs");
     }
-    for run in odd.into_iter().take(MOST_PICTURES) {
+    for (kept, run) in odd.into_iter().take(MOST_PICTURES) {
         let Some(path) = &run.path else { continue };
-        let number = run_of(run.number, run.run_id.as_ref());
+        let number = run_of(run.number, Some(&run.run_id));
         let what = format!("Run {number}: {}: {}.{}", run.said(), spelled(path), names.generals(&run.nodes));
-        match drawn(&told.folder.join(path), run) {
+        match drawn(&told.folder.join(path), kept.input()) {
             Ok(svg) => page.picture(&what, &svg),
             Err(told) => page.text(&format!("{what} No picture: {told}")),
         }
@@ -460,9 +492,9 @@ fn pictures(page: &mut Page, told: &Told, names: &Names) {
 }
 
 /// The picture of a file that has the digest of the index.
-fn drawn(path: &Path, run: &Kept) -> Result<String, String> {
+fn drawn(path: &Path, judged: Option<&String>) -> Result<String, String> {
     let input = files::read(path, &Rooms::default()).and_then(|it| it.input).map_err(|told| told.to_string())?;
-    if run.input.as_deref() != Some(digest(&input).as_str()) {
+    if judged != Some(&digest(&input)) {
         return Err("the file has other bytes now".into());
     }
     let svg = vamuretu::draw(&input).map_err(|told| told.to_string())?;
@@ -472,20 +504,15 @@ fn drawn(path: &Path, run: &Kept) -> Result<String, String> {
     Ok(svg)
 }
 
-/// A moment as people write it.
-fn moment(ms: i64) -> String {
-    let since = std::time::Duration::from_millis(ms.max(0) as u64);
-    humantime::format_rfc3339_seconds(std::time::UNIX_EPOCH + since).to_string()
-}
-
 /// Digests and versions.
 fn judged(page: &mut Page, reader: &Reader, told: &Told, asked: &Report) {
     page.head("What was judged, and by what");
     let mut by: BTreeMap<(&str, &str), (i64, i64)> = BTreeMap::new();
     for it in &told.runs {
-        let times =
-            by.entry((&it.library, it.program.as_deref().unwrap_or("the watcher's"))).or_insert((it.judged, it.judged));
-        *times = (times.0.min(it.judged), times.1.max(it.judged));
+        let (Some(library), Some(judged)) = (it.library(), it.judged()) else { continue };
+        let program = it.file.as_ref().and_then(|file| file.program.as_deref()).unwrap_or("the watcher's");
+        let times = by.entry((library, program)).or_insert((judged, judged));
+        *times = (times.0.min(judged), times.1.max(judged));
     }
     let mut all = Sha256::new();
     told.digests.iter().for_each(|file| all.update(digest_line(file)));
@@ -507,7 +534,7 @@ fn judged(page: &mut Page, reader: &Reader, told: &Told, asked: &Report) {
         digests(page, told, asked);
         signing(page, &asked.out);
     } else {
-        page.verdict(false, worth::UNCOMMITTED);
+        page.verdict(false, &[worth::UNCOMMITTED]);
     }
     close(page);
 }
@@ -566,16 +593,11 @@ mod tests {
         let twice = [found(&node, Some(35), 'a'), found(&node, Some(35), 'a')];
         assert_eq!(said(&twice), "node 3 in run 35, where it is general 1");
         assert_eq!(said(&[found(&node, Some(35), 'a'), found(&node, Some(37), 'b')]), "node 3 in runs 35, 37");
-        let alone = "the holder of the root abababababababab.., general 1 of the run aaaaaaaaaaaaaaaa..";
+        let alone = "the holder of the root abababababababab..: general 1 of the run aaaaaaaaaaaaaaaa..";
         assert_eq!(said(&[found(&holder, None, 'a')]), alone);
         assert_eq!(
             said(&[found(&holder, None, 'a'), found(&holder, None, 'b')]),
-            "the holder of the root abababababababab.. in 2 runs"
+            format!("{alone}, general 1 of the run bbbbbbbbbbbbbbbb..")
         );
-    }
-
-    #[test]
-    fn moments() {
-        assert_eq!(moment(1_798_761_600_000), "2027-01-01T00:00:00Z");
     }
 }

@@ -75,9 +75,10 @@ impl Page {
         self.put("p", "", &escaped(text));
     }
 
-    /// The sentence that a reader takes away. It is marked, if it tells of something that is not as it should be.
-    pub fn verdict(&mut self, is_well: bool, text: &str) {
-        self.put("p", if is_well { "verdict well" } else { "verdict ill" }, &escaped(text));
+    /// What a reader takes away, a line each. It is marked, if it tells of something that is not as it should be.
+    pub fn verdict<T: AsRef<str>>(&mut self, is_well: bool, lines: &[T]) {
+        let lines: Vec<String> = lines.iter().map(|it| escaped(it.as_ref())).collect();
+        self.put("p", if is_well { "verdict well" } else { "verdict ill" }, &lines.join("<br>"));
     }
 
     pub fn list(&mut self, texts: &[&str]) {
@@ -98,12 +99,12 @@ impl Page {
             format!("<tr>{fields}</tr>\n")
         };
         let rows: String = rows.iter().map(row).collect();
-        self.put("table", "", &format!("\n<tr>{head}</tr>\n{rows}"));
+        self.put("div", "wide", &format!("<table>\n<tr>{head}</tr>\n{rows}</table>"));
     }
 
-    /// A table that is shown when the reader asks for it.
+    /// A table that a reader may close. Paper has it.
     pub fn table_behind(&mut self, text: &str, names: &[&str], rows: &[Vec<Field>]) {
-        let _ = writeln!(self.body, "<details><summary>{}</summary>", escaped(text));
+        let _ = writeln!(self.body, "<details open><summary>{}</summary>", escaped(text));
         self.table(names, rows);
         self.body.push_str("</details>\n");
     }
@@ -142,7 +143,7 @@ mod tests {
         let mut page = Page::new(hostile);
         page.head(hostile);
         page.text(hostile);
-        page.verdict(false, hostile);
+        page.verdict(false, &[hostile]);
         page.list(&[hostile]);
         page.code(hostile);
         page.table(

@@ -1,6 +1,8 @@
 //! What is said to people who have not seen this before: what an answer is worth, and how a page is signed. The words are
 //! those of docs/ANSWERS.md, in short.
 
+use crate::index::Verdict;
+
 /// What a conviction is worth.
 pub const CONVICTION: [&str; 4] = [
     "A conviction stands on signatures alone, and needs no witness: anybody can check it by the commands below.",
@@ -15,14 +17,14 @@ pub const CHECKED: &str =
 
 /// What a verdict `agreed` is worth.
 pub const AGREED: &str = "An agreed run tells what the correct nodes decided if no more nodes are faulty than the m that it was \
-    planned for, if at least m + 1 nodes are not set aside, if correct nodes are joined by walks through correct nodes as it was \
+    planned for, if at least m + 1 nodes are not assumed faulty, if correct nodes are joined by walks through correct nodes as it was \
     planned, if nobody else has the keys of a correct node, and if its run id or its system is known from elsewhere.";
 
 /// What a verdict `no` without a conviction is worth.
 pub const FINDING: [&str; 3] = [
     "A finding convicts nobody. A message that only one of two logs has can be the fault of either end, or of the network.",
     "A log that was changed, cut or exchanged can come from anybody who had it.",
-    "Ask the nodes that are named for their logs again, or judge with another list of faulty nodes.",
+    "Ask the nodes that are named for their logs again, or judge with another list of nodes that are assumed faulty.",
 ];
 
 /// What the others mean.
@@ -34,9 +36,9 @@ pub const DOUBLE: &str =
 pub const EQUAL: &str = "Whoever has the keys of one of these nodes has those of the other, and is counted twice.";
 pub const GAP: &str =
     "A run in which nobody proposed leaves a file too. So a missing file was lost, kept back, or never made.";
-pub const NUMBERLESS: &str = "No admission shows these runs, so nothing says which node a general of a run is. The number of a \
-    general says nothing of another run: names are left out, and nothing is counted over runs but by the root of keys. Anybody \
-    can make such files. This gives runs and nodes their numbers:";
+pub const NUMBERLESS: &str = "No admission shows these runs, so nothing says whose they are: anybody can make such files. The \
+    number of a general says nothing of another run. So a conviction is of the holder of a root, nothing is added up over \
+    runs, and no names are given. This gives runs and nodes their numbers:";
 pub const UNCOMMITTED: &str =
     "The index knows the digest of no file. So this page commits to no file: whoever signs it signs no \
     evidence.";
@@ -56,20 +58,25 @@ pub fn kind(kind: &str) -> &'static str {
     }
 }
 
+/// How many nodes speak for the correct nodes, where these are too few.
+pub fn few((count, needed): (u32, u32)) -> String {
+    let are = if count == 1 { "node is" } else { "nodes are" };
+    format!("{count} {are} not assumed faulty; {needed} are needed to speak for the correct nodes.")
+}
+
 /// What a verdict means, in the words of a person.
-pub fn verdict(verdict: &str) -> &'static str {
+pub fn verdict(verdict: Verdict) -> &'static str {
     match verdict {
-        "agreed" => {
-            "The signed logs fit together, and all nodes that are not set aside decided the same value. A convicted node can be \
-             one of those that are set aside."
+        Verdict::Agreed => {
+            "The signed logs fit together, and all nodes that are not assumed faulty decided the same value. A convicted \
+             node can be one of those that are assumed faulty."
         }
-        "explained" => {
-            "The signed logs fit together, but more nodes are set aside than the run was planned for: nothing says that the \
-             others had to agree."
+        Verdict::Explained => {
+            "The signed logs fit together, but more nodes are assumed faulty than the run was planned for: nothing says \
+             that the others had to agree."
         }
-        "no" => "The signed logs do not fit together: the findings say where.",
-        "gap" => "No log came.",
-        _ => "",
+        Verdict::No => "The signed logs do not fit together: the findings say where.",
+        Verdict::Gap => "No log came.",
     }
 }
 

@@ -9,8 +9,9 @@ use std::time::{Duration, Instant};
 use prometheus::IntCounterVec;
 use serde_json::{json, Value};
 
-use super::index::{Alarm, Convicted, Raised, Run};
+use super::index::{Alarm, Raised};
 use super::keep::Job;
+use crate::index::{Run, Verdict};
 
 /// How long the program of an alarm may take.
 const MOST_TIME: Duration = Duration::from_secs(10);
@@ -20,18 +21,18 @@ const STEP: Duration = Duration::from_millis(20);
 fn of_run(kind: &'static str, run: &Run, node: Option<u32>, said: String) -> Raised {
     let text = json!({
         "alarm": kind,
-        "file": run.file.as_ref().map(|it| &it.path),
-        "listed": run.listed,
+        "assumed_faulty": run.assumed_faulty,
+        "file": run.path,
         "missing": run.missing,
         "node": node,
+        "order": run.order,
         "run": run.number,
         "run_id": run.run_id,
         "said": said,
         "time": run.judged,
-        "value": run.value,
         "verdict": run.verdict,
     });
-    Raised { kind, number: Some(run.number), node, text }
+    Raised { kind, number: run.number, node, text }
 }
 
 /// An alarm of something else than a run.
@@ -46,8 +47,8 @@ fn is_same(one: &Raised, other: &Raised) -> bool {
 }
 
 /// The kinds of the alarms of a run that were raised by what was judged of it before, and that do not hold by what is judged.
-pub fn taken_back(run: &Run, convicted: &[Convicted], most: usize, before: (&Run, &[Convicted])) -> Vec<&'static str> {
-    let (had, has) = (of(before.0, before.1, most, None), of(run, convicted, most, None));
+pub fn taken_back(run: &Run, most: usize, before: &Run) -> Vec<&'static str> {
+    let (had, has) = (of(before, most, None), of(run, most, None));
     let is_over = |was: &&Raised| was.kind != "conviction" && !has.iter().any(|it| is_same(it, was));
     had.iter().filter(is_over).map(|was| was.kind).collect()
 }
@@ -60,38 +61,43 @@ pub fn take_back(kind: &'static str, run: &Run, place: Option<i64>) -> Raised {
     raised
 }
 
-/// The alarms of a run that was judged, planned for `most` faulty nodes. `convicted` are all convictions that were ever found,
-/// and `before` is what was judged of it before, and who was convicted then.
-pub fn of(run: &Run, convicted: &[Convicted], most: usize, before: Option<(&Run, &[Convicted])>) -> Vec<Raised> {
+/// The alarms of a run that was judged, planned for `most` faulty nodes. It names all who were ever convicted, as `before` does,
+/// which is what was judged of it before.
+pub fn of(run: &Run, most: usize, before: Option<&Run>) -> Vec<Raised> {
     let mut raised = vec![];
-    let was_convicted = before.map_or(&[][..], |it| it.1);
-    let is_known = |it: &&Convicted| was_convicted.iter().any(|was| (was.node, &was.kind) == (it.node, &it.kind));
-    for it in convicted.iter().filter(|it| !is_known(it)) {
-        let said = format!("node {} is convicted by {}: {}", it.node, it.kind, it.path);
-        raised.push(of_run("conviction", run, Some(it.node), said));
+    for it in &run.convicted {
+        let is_known =
+            before.is_some_and(|was| was.convicted.iter().any(|was| (was.node, &was.kind) == (it.node, &it.kind)));
+        if !is_known {
+            let evidence = it.evidence.as_deref().unwrap_or_default();
+            let said = format!("node {} is convicted by {}: {evidence}", it.node, it.kind);
+            raised.push(of_run("conviction", run, Some(it.node), said));
+        }
     }
-    let open: Vec<u32> = run.listed.iter().copied().filter(|node| !run.missing.contains(node)).collect();
-    let open: Vec<u32> = open.into_iter().filter(|node| !convicted.iter().any(|it| it.node == *node)).collect();
-    match run.verdict.as_str() {
-        "gap" => raised.push(of_run("gap", run, None, "no log came".into())),
-        "no" => raised.push(of_run("no", run, None, "the verdict is no".into())),
-        "explained" => raised.push(of_run("explained", run, None, "more than m nodes are listed as faulty".into())),
-        _ if !open.is_empty() => {
-            let said = format!("the verdict is agreed with nodes {open:?} listed, or {:?}", run.others);
+    let is_open = |node: &u32| !run.missing.contains(node) && !run.convicted.iter().any(|it| it.node == *node);
+    let open: Vec<u32> = run.assumed_faulty.iter().copied().filter(is_open).collect();
+    match run.verdict {
+        Verdict::Gap => raised.push(of_run("gap", run, None, "no log came".into())),
+        Verdict::No => raised.push(of_run("no", run, None, "the verdict is no".into())),
+        Verdict::Explained => {
+            raised.push(of_run("explained", run, None, "more than m nodes are assumed faulty".into()));
+        }
+        Verdict::Agreed if !open.is_empty() => {
+            let said = format!("the verdict is agreed with nodes {open:?} assumed faulty, or {:?}", run.others);
             raised.push(of_run("suspected", run, None, said));
         }
-        _ => {}
+        Verdict::Agreed => {}
     }
-    if run.verdict != "gap" && run.missing.len() > most {
+    if run.verdict != Verdict::Gap && run.missing.len() > most {
         raised.push(of_run("missing", run, None, format!("no log came from nodes {:?}", run.missing)));
     }
-    if let Some((was, was_convicted)) = before {
-        let had = of(was, was_convicted, most, None);
+    if let Some(was) = before {
+        let had = of(was, most, None);
         raised.retain(|it| it.kind == "conviction" || !had.iter().any(|was| is_same(it, was)));
-    }
-    if let Some((was, _)) = before.filter(|(was, _)| (&was.verdict, was.value) != (&run.verdict, run.value)) {
-        let said = format!("the verdict was {} {:?} before", was.verdict, was.value);
-        raised.push(of_run("changed", run, None, said));
+        if (was.verdict, was.order) != (run.verdict, run.order) {
+            let said = format!("the verdict was {} before", was.verdict_said());
+            raised.push(of_run("changed", run, None, said));
+        }
     }
     raised
 }
@@ -141,74 +147,72 @@ pub fn tell(alarms: &Receiver<Alarm>, back: &SyncSender<Job>, hook: Option<PathB
 
 #[cfg(test)]
 mod tests {
+    use super::super::index::tests::{convicted, run as judged};
     use super::*;
+    use crate::index::Conviction;
+    use Verdict::*;
 
-    fn run(verdict: &str, listed: &[u32], missing: &[u32]) -> Run {
-        Run {
-            number: 5,
-            run_id: "a".repeat(64),
-            verdict: verdict.to_owned(),
-            value: Some(1),
-            listed: listed.to_vec(),
-            others: vec![],
-            missing: missing.to_vec(),
-            file: None,
-            library: "1.2.3".to_owned(),
-            judged: 7,
-            nodes: vec![1, 2, 3, 0],
-        }
+    fn run(verdict: Verdict, assumed_faulty: &[u32], missing: &[u32]) -> Run {
+        Run { assumed_faulty: assumed_faulty.to_vec(), others: vec![], ..judged(5, verdict, missing) }
     }
 
-    fn kinds(run: &Run, convicted: &[Convicted], before: Option<(&Run, &[Convicted])>) -> Vec<&'static str> {
-        of(run, convicted, 1, before).iter().map(|it| it.kind).collect()
+    /// The same run, in which nodes are convicted.
+    fn with(run: Run, convicted: &[Conviction]) -> Run {
+        Run { convicted: convicted.to_vec(), ..run }
+    }
+
+    fn kinds(run: &Run, before: Option<&Run>) -> Vec<&'static str> {
+        of(run, 1, before).iter().map(|it| it.kind).collect()
     }
 
     #[test]
     fn what_raises_alarms() {
-        let liar = [Convicted { node: 2, kind: "K2".to_owned(), path: "2".to_owned() }];
         let none: &[&str] = &[];
-        assert_eq!(kinds(&run("agreed", &[], &[]), &[], None), none);
-        assert_eq!(kinds(&run("agreed", &[3], &[3]), &[], None), none);
-        assert_eq!(kinds(&run("agreed", &[3], &[]), &[], None), ["suspected"]);
-        assert_eq!(kinds(&run("agreed", &[2], &[]), &liar, None), ["conviction"]);
-        assert_eq!(kinds(&run("explained", &[0, 1], &[0, 1]), &[], None), ["explained", "missing"]);
-        assert_eq!(kinds(&run("no", &[], &[]), &[], None), ["no"]);
-        assert_eq!(kinds(&run("gap", &[0, 1, 2, 3], &[0, 1, 2, 3]), &[], None), ["gap"]);
+        assert_eq!(kinds(&run(Agreed, &[], &[]), None), none);
+        assert_eq!(kinds(&run(Agreed, &[3], &[3]), None), none);
+        assert_eq!(kinds(&run(Agreed, &[3], &[]), None), ["suspected"]);
+        assert_eq!(kinds(&with(run(Agreed, &[2], &[]), &[convicted(2, "K2")]), None), ["conviction"]);
+        assert_eq!(kinds(&run(Explained, &[0, 1], &[0, 1]), None), ["explained", "missing"]);
+        assert_eq!(kinds(&run(No, &[], &[]), None), ["no"]);
+        assert_eq!(kinds(&run(Gap, &[0, 1, 2, 3], &[0, 1, 2, 3]), None), ["gap"]);
+        let text = &of(&run(No, &[2], &[]), 1, None)[0].text;
+        assert_eq!((&text["order"], &text["assumed_faulty"], &text["verdict"]), (&json!(1), &json!([2]), &json!("no")));
     }
 
     #[test]
     fn what_raises_alarms_the_second_time() {
-        let liar = [Convicted { node: 2, kind: "K2".to_owned(), path: "2".to_owned() }];
-        let (before, now) = (run("agreed", &[2], &[]), run("no", &[2], &[]));
-        assert_eq!(kinds(&now, &liar, Some((&before, &liar))), ["no", "changed"]);
-        assert_eq!(kinds(&before, &liar, Some((&before, &[]))), ["conviction"]);
-        assert_eq!(kinds(&now, &liar, Some((&now, &liar))), Vec::<&str>::new());
+        let liar = [convicted(2, "K2")];
+        let (before, now) = (run(Agreed, &[2], &[]), with(run(No, &[2], &[]), &liar));
+        assert_eq!(kinds(&now, Some(&with(before.clone(), &liar))), ["no", "changed"]);
+        assert_eq!(kinds(&with(before.clone(), &liar), Some(&before)), ["conviction"]);
+        assert_eq!(kinds(&now, Some(&now)), Vec::<&str>::new());
     }
 
     #[test]
     fn what_takes_alarms_back() {
-        let none: &[Convicted] = &[];
-        let over = |run: &Run, convicted, was: &Run| taken_back(run, convicted, 1, (was, none));
-        let suspected = Run { others: vec![vec![3]], ..run("agreed", &[2], &[]) };
-        let liar = [Convicted { node: 3, kind: "K1".to_owned(), path: "3".to_owned() }];
-        assert_eq!(over(&run("agreed", &[3], &[]), &liar, &suspected), ["suspected"]);
-        assert_eq!(over(&run("agreed", &[1], &[]), none, &suspected), ["suspected"]);
-        assert_eq!(kinds(&run("agreed", &[1], &[]), none, Some((&suspected, none))), ["suspected"]);
-        assert_eq!(over(&suspected, none, &suspected), Vec::<&str>::new());
-        let gap = run("gap", &[0, 1, 2, 3], &[0, 1, 2, 3]);
-        assert_eq!(over(&run("explained", &[1, 2, 3], &[1, 2, 3]), none, &gap), ["gap"]);
-        assert_eq!(over(&run("agreed", &[], &[]), none, &run("explained", &[1, 2], &[1, 2])), ["explained", "missing"]);
-        assert_eq!(over(&run("agreed", &[2], &[]), none, &run("agreed", &[], &[])), Vec::<&str>::new());
-        let told = take_back("gap", &run("agreed", &[], &[]), Some(7));
+        let over = |run: &Run, was: &Run| taken_back(run, 1, was);
+        let suspected = Run { others: vec![vec![3]], ..run(Agreed, &[2], &[]) };
+        let liar = with(run(Agreed, &[3], &[]), &[convicted(3, "K1")]);
+        assert_eq!(over(&liar, &suspected), ["suspected"]);
+        assert_eq!(over(&run(Agreed, &[1], &[]), &suspected), ["suspected"]);
+        assert_eq!(kinds(&run(Agreed, &[1], &[]), Some(&suspected)), ["suspected"]);
+        assert_eq!(over(&suspected, &suspected), Vec::<&str>::new());
+        let gap = run(Gap, &[0, 1, 2, 3], &[0, 1, 2, 3]);
+        assert_eq!(over(&run(Explained, &[1, 2, 3], &[1, 2, 3]), &gap), ["gap"]);
+        assert_eq!(over(&run(Agreed, &[], &[]), &run(Explained, &[1, 2], &[1, 2])), ["explained", "missing"]);
+        assert_eq!(over(&run(Agreed, &[2], &[]), &run(Agreed, &[], &[])), Vec::<&str>::new());
+        let told = take_back("gap", &run(Agreed, &[], &[]), Some(7));
         assert_eq!((told.kind, told.number), ("taken-back", Some(5)));
         assert_eq!(told.text["taken_back"], json!({ "alarm": "gap", "place": 7 }));
     }
 
     #[test]
     fn each_kind_of_a_conviction_is_told() {
-        let by = |kind: &str| Convicted { node: 3, kind: kind.to_owned(), path: kind.to_owned() };
-        let judged = run("agreed", &[3], &[]);
-        let told = of(&judged, &[by("K1"), by("K2")], 1, Some((&judged, &[by("K2")])));
+        let of_kinds = |kinds: &[&str]| {
+            let convicted: Vec<Conviction> = kinds.iter().map(|kind| convicted(3, kind)).collect();
+            with(run(Agreed, &[3], &[]), &convicted)
+        };
+        let told = of(&of_kinds(&["K1", "K2"]), 1, Some(&of_kinds(&["K2"])));
         assert_eq!(told.iter().map(|it| it.kind).collect::<Vec<_>>(), ["conviction"]);
         assert!(told[0].text["said"].to_string().contains("K1"));
     }

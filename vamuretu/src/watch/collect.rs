@@ -14,7 +14,7 @@ use std::time::{Duration, Instant};
 use tokio::net::TcpListener;
 use tokio::sync::{Semaphore, SemaphorePermit};
 
-use super::index::{Kept, Log};
+use super::index::{Kept, Packed};
 use super::keep::{Job, Runs, Times};
 use super::{alarms, judge, Counts};
 use crate::clock::{self, Guard};
@@ -246,7 +246,8 @@ impl Door {
             Ok(false) => return Err(refused(Refused::Unsealed)),
             Err(told) => return Err(Failed::Own(told.to_string())),
         }
-        let log = Log { number, node, sha256: judge::digest(&bytes), bytes };
+        let (sha256, bytes) = (judge::digest(&bytes), bytes.len());
+        let log = Packed { number, node, sha256, bytes, packed: packed.to_vec() };
         let (answer, answered) = sync_channel(1);
         let gone = || Failed::Own("nothing is kept now".into());
         self.jobs.send(Job::Keep(log, answer)).map_err(|_| gone())?;

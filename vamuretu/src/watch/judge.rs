@@ -10,7 +10,9 @@ use std::io;
 
 use serde::Deserialize;
 use sha2::{Digest, Sha256};
-use vamuretu::{Bundle, Conviction, Expected, Fault, Finding, Header, RunId, Said, Verdict};
+use vamuretu::{Bundle, Expected, Fault, Finding, Header, RunId, Said, Verdict};
+
+use crate::index::judged::Answer;
 
 /// How many lists are tried beyond the first ones.
 const MOST_TRIED: usize = 32;
@@ -18,7 +20,7 @@ const MOST_TRIED: usize = 32;
 pub const WINDOW: u32 = 27;
 const LEVEL: i32 = 3;
 
-/// A list of nodes that are held for faulty, by their numbers in the run.
+/// A list of nodes that are assumed faulty, by their numbers in the run.
 pub type List = BTreeSet<u32>;
 
 /// What was judged of a run.
@@ -26,36 +28,20 @@ pub type List = BTreeSet<u32>;
 pub struct Judged {
     /// The bundle of all logs, with the list of the verdict.
     pub bundle: Vec<u8>,
-    /// The SHA-256 of the bundle, as the library tells it.
-    pub sha256: String,
-    /// The answer of the library as one line of JSON.
-    pub json: String,
-    /// The same in its parts.
-    pub verdict: Verdict,
+    /// What the library answers on it.
+    pub answer: Answer,
     /// Lists as long as that of the verdict that give a yes too: the logs do not tell which of them is right.
     pub others: Vec<List>,
-    /// The value that each log decides, in the order of the logs.
-    pub decided: Vec<Option<u32>>,
-    /// Who is convicted, with the evidence.
-    pub evidence: Vec<(Conviction, Vec<u8>)>,
+    /// Who is convicted, by their numbers in the run, each with the kind and the evidence.
+    pub evidence: Vec<(u32, String, Vec<u8>)>,
 }
 
-/// The parts of the answer in JSON that have no field in the binding.
-#[derive(Deserialize)]
-struct Told {
-    input: Input,
-    logs: Vec<Decided>,
-}
-
-#[derive(Deserialize)]
-struct Input {
-    sha256: String,
-}
-
-#[derive(Deserialize)]
-struct Decided {
-    general: u32,
-    order: Option<u32>,
+impl Judged {
+    /// The order that each log decides, in the order of the logs.
+    pub fn decided(&self, logs: impl Iterator<Item = u32>) -> Vec<Option<u32>> {
+        let mut read = self.answer.decided.iter().flatten().peekable();
+        logs.map(|general| read.next_if(|it| it.0 == general).and_then(|it| it.1)).collect()
+    }
 }
 
 /// A log that stands in a bundle, as `show` tells its place.
@@ -74,13 +60,37 @@ fn other(said: impl std::fmt::Display) -> io::Error {
     io::Error::new(io::ErrorKind::InvalidData, said.to_string())
 }
 
-/// The bundle of a list, and the verdict on it.
-fn ask(header: &Header, of: Expected, list: &List, logs: &[(u32, &[u8])]) -> Result<(Bundle, Verdict), Fault> {
-    let listed: Vec<u32> = list.iter().copied().collect();
-    let bundle = Bundle::parted(header, &listed, logs)?;
-    let judgement = vamuretu::judge(of, bundle.as_bytes())?;
-    let verdict = judgement.runs().first().cloned().ok_or(Fault::Misuse)?;
-    Ok((bundle, verdict))
+/// The logs of a run, of which the lists of the verdict are sought.
+struct Case<'a> {
+    header: &'a Header,
+    of: Expected<'a>,
+    logs: &'a [(u32, &'a [u8])],
+}
+
+/// The logs under a list: their bundle, and what was judged of it.
+struct Tried {
+    list: List,
+    bundle: Bundle,
+    judged: vamuretu::Judged,
+}
+
+impl Case<'_> {
+    /// Judges the logs under a list, by one whole audit.
+    fn under(&self, list: List) -> Result<Tried, Fault> {
+        let assumed: Vec<u32> = list.iter().copied().collect();
+        let bundle = Bundle::parted(self.header, &assumed, self.logs)?;
+        let judged = vamuretu::Judged::of(self.of, bundle.as_bytes())?;
+        match judged.judgement().runs() {
+            [_] => Ok(Tried { list, bundle, judged }),
+            _ => Err(Fault::Misuse),
+        }
+    }
+}
+
+impl Tried {
+    fn verdict(&self) -> &Verdict {
+        &self.judged.judgement().runs()[0]
+    }
 }
 
 /// The findings of a verdict, none of a yes.
@@ -109,14 +119,11 @@ fn ends(verdict: &Verdict) -> List {
     findings(verdict).iter().flat_map(of).collect()
 }
 
-/// The lists of at most `most` nodes that give a yes, the shortest of them alone, found among those that add ends of
-/// messages to a list with a no.
-fn shortest(
-    first: (List, List),
-    most: usize,
-    is_no: &mut dyn FnMut(&List) -> Result<(bool, List), Fault>,
-) -> Result<Vec<List>, Fault> {
-    let (mut open, mut seen, mut tried) = (vec![first], BTreeSet::new(), 0);
+/// The lists of at most `most` nodes that give a yes, the shortest of them alone, found among those that add ends of messages to
+/// the list of a no. Of all but the first the list alone is told.
+fn shortest(case: &Case, first: &Tried, most: usize) -> Result<Option<(Tried, Vec<List>)>, Fault> {
+    let mut open = vec![(first.list.clone(), ends(first.verdict()))];
+    let (mut seen, mut tried) = (BTreeSet::new(), 0);
     while !open.is_empty() {
         let (mut found, mut next) = (vec![], vec![]);
         for (list, ends) in open {
@@ -126,63 +133,47 @@ fn shortest(
                     continue;
                 }
                 tried += 1;
-                match is_no(&longer)? {
-                    (true, ends) => next.push((longer, ends)),
-                    (false, _) => found.push(longer),
+                let under = case.under(longer)?;
+                match under.verdict().is_no() {
+                    true => next.push((under.list.clone(), self::ends(under.verdict()))),
+                    false => found.push(under),
                 }
             }
         }
         if !found.is_empty() {
-            found.sort();
-            return Ok(found);
+            found.sort_by(|one, other| one.list.cmp(&other.list));
+            let mut found = found.into_iter();
+            return Ok(found.next().map(|first| (first, found.map(|it| it.list).collect())));
         }
         open = next;
     }
-    Ok(vec![])
+    Ok(None)
 }
 
 /// Judges the logs of a run, which is the one that is expected. They are sealed and stand in the ascending order of their
 /// nodes' numbers in the run. There is at least one.
 pub fn judge(header: &Header, of: Expected, logs: &[(u32, &[u8])]) -> Result<Judged, Fault> {
+    let case = Case { header, of, logs };
     let with: List = logs.iter().map(|log| log.0).collect();
-    let mut list: List = (0..header.generals()).filter(|general| !with.contains(general)).collect();
-    let (mut bundle, mut verdict) = ask(header, of, &list, logs)?;
-    while verdict.is_no() && !named(&verdict).is_subset(&list) {
-        list.extend(named(&verdict));
-        (bundle, verdict) = ask(header, of, &list, logs)?;
+    let mut tried = case.under((0..header.generals()).filter(|general| !with.contains(general)).collect())?;
+    while tried.verdict().is_no() && !named(tried.verdict()).is_subset(&tried.list) {
+        let longer = tried.list.union(&named(tried.verdict())).copied().collect();
+        tried = case.under(longer)?;
     }
     let mut others = vec![];
-    if verdict.is_no() {
-        let most = usize::try_from(verdict.traitors).map_err(|_| Fault::Misuse)?;
-        let mut is_no = |list: &List| ask(header, of, list, logs).map(|(_, it)| (it.is_no(), ends(&it)));
-        let mut found = shortest((list, ends(&verdict)), most, &mut is_no)?.into_iter();
-        if let Some(list) = found.next() {
-            (bundle, verdict) = ask(header, of, &list, logs)?;
+    if tried.verdict().is_no() {
+        let most = usize::try_from(tried.verdict().traitors).map_err(|_| Fault::Misuse)?;
+        if let Some((first, more)) = shortest(&case, &tried, most)? {
+            (tried, others) = (first, more);
         }
-        others = found.collect();
     }
-    told(of, bundle, verdict, others, logs)
-}
-
-/// What is kept of a verdict.
-fn told(
-    of: Expected,
-    bundle: Bundle,
-    verdict: Verdict,
-    others: Vec<List>,
-    logs: &[(u32, &[u8])],
-) -> Result<Judged, Fault> {
-    let json = vamuretu::audit_json(of, bundle.as_bytes())?;
-    let told: Told = serde_json::from_str(&json).map_err(|_| Fault::Misuse)?;
-    let mut read = told.logs.into_iter().peekable();
-    let decided = logs.iter().map(|log| read.next_if(|it| it.general == log.0).and_then(|it| it.order)).collect();
     let mut evidence = vec![];
-    for &conviction in &verdict.convictions {
-        let found = vamuretu::accuse_of(of, conviction.general, bundle.as_bytes())?.ok_or(Fault::Misuse)?;
-        evidence.push((conviction, found));
+    for it in &tried.verdict().convictions {
+        let found = tried.judged.evidence(it.general)?.ok_or(Fault::Misuse)?;
+        evidence.push((it.general, format!("K{}", it.kind), found));
     }
-    let bundle = bundle.as_bytes().to_vec();
-    Ok(Judged { bundle, sha256: told.input.sha256, json, verdict, others, decided, evidence })
+    let answer = Answer::of(&tried.judged, header.as_bytes())?;
+    Ok(Judged { bundle: tried.bundle.as_bytes().to_vec(), answer, others, evidence })
 }
 
 /// Whether a log of a node is sealed: whether the node signed all of it, for the run of the header.
@@ -258,6 +249,8 @@ pub fn unpack(bytes: &[u8], most: usize) -> io::Result<Vec<u8>> {
 #[cfg(test)]
 mod tests {
     use super::*;
+    use crate::index::judged::roots_of;
+    use crate::index::Verdict;
     use vamuretu::{Keys, Node, Numbers, Seed, Version};
 
     const FOUR: u32 = 4;
@@ -301,15 +294,21 @@ mod tests {
         judge(header, (&[run]).into(), &logs).expect("a verdict")
     }
 
+    /// The verdict, its order, and who is assumed faulty.
+    fn said(judged: &Judged) -> (Verdict, Option<u32>, Vec<u32>) {
+        let run = &judged.answer.runs[0];
+        (run.verdict, run.order, run.assumed_faulty.clone())
+    }
+
     #[test]
     fn a_run_of_correct_nodes() {
         let header = header(1);
         let logs = run(&header, 1, 2, None);
         let told = judged(&header, &logs);
-        assert_eq!((&told.verdict.said, &told.verdict.faulty[..]), (&Said::Agreed(2), &[][..]));
-        assert_eq!((&told.decided[..], told.evidence.len(), told.others.len()), (&[Some(2); 4][..], 0, 0));
-        assert!(told.json.contains("\"verdict\":\"agreed\"") && told.json.contains(&told.sha256));
-        assert_eq!(digest(&told.bundle), told.sha256);
+        assert_eq!(said(&told), (Verdict::Agreed, Some(2), vec![]));
+        assert_eq!((told.decided(0..4), told.evidence.len(), told.others.len()), (vec![Some(2); 4], 0, 0));
+        assert!(told.answer.json.contains("\"verdict\":\"agreed\"") && told.answer.json.contains(&told.answer.input));
+        assert_eq!((digest(&told.bundle), told.bundle.len() as u64), (told.answer.input.clone(), told.answer.bytes));
         assert_eq!(logs_of(&header.run_id().expect("a header"), &told.bundle).expect("a bundle"), logs);
         assert!(logs_of(&[0; 32], &told.bundle).is_err());
     }
@@ -320,30 +319,35 @@ mod tests {
         let mut logs = run(&header, 1, 2, None);
         logs.remove(1);
         let told = judged(&header, &logs);
-        assert_eq!((told.verdict.said, &told.verdict.faulty[..]), (Said::Agreed(2), &[1][..]));
+        assert_eq!(said(&told), (Verdict::Agreed, Some(2), vec![1]));
+        assert_eq!(
+            (told.decided([0, 2, 3].into_iter()), &told.answer.runs[0].missing[..]),
+            (vec![Some(2); 3], &[1][..])
+        );
         logs.truncate(1);
         let told = judged(&header, &logs);
-        assert!(matches!(told.verdict.said, Said::Explained(_)) && told.verdict.faulty == [1, 2, 3]);
+        assert_eq!(said(&told), (Verdict::Explained, None, vec![1, 2, 3]));
+        assert!(!told.answer.runs[0].speaks());
     }
 
     #[test]
     fn a_liar_is_convicted_and_listed() {
         let header = header(1);
         let told = judged(&header, &run(&header, 1, 1, None));
-        assert_eq!((told.verdict.said, &told.verdict.faulty[..]), (Said::Agreed(0), &[0][..]));
-        let [(conviction, evidence)] = &told.evidence[..] else { panic!("one conviction") };
-        assert_eq!((conviction.general, conviction.kind), (0, 2));
-        assert_eq!(vamuretu::evidence_of(Some(&told.verdict.run_id), evidence), Ok(true));
-        assert_eq!(accused(&told.verdict.run_id, evidence).expect("evidence"), Some((0, "K2".to_owned())));
-        assert!(accused(&[0; 32], evidence).is_err() && accused(&told.verdict.run_id, &evidence[1..]).is_err());
+        assert_eq!(said(&told), (Verdict::Agreed, Some(0), vec![0]));
+        let [(0, kind, evidence)] = &told.evidence[..] else { panic!("one conviction") };
+        let (own, roots) = (header.run_id().expect("a header"), roots_of(header.as_bytes()).expect("a header"));
+        assert_eq!((&told.answer.runs[0].convicted[0].root, kind.as_str()), (&roots[0][0], "K2"));
+        assert_eq!(vamuretu::evidence_of(Some(&own), evidence), Ok(true));
+        assert_eq!(accused(&own, evidence).expect("evidence"), Some((0, "K2".to_owned())));
+        assert!(accused(&[0; 32], evidence).is_err() && accused(&own, &evidence[1..]).is_err());
     }
 
     #[test]
     fn either_end_of_a_lost_frame_is_listed() {
         let header = header(1);
         let told = judged(&header, &run(&header, 1, 2, Some((1, 3))));
-        assert_eq!((told.verdict.said, &told.verdict.faulty[..]), (Said::Agreed(2), &[1][..]));
-        assert_eq!(told.others, [List::from([3])]);
+        assert_eq!((said(&told), told.others), ((Verdict::Agreed, Some(2), vec![1]), vec![List::from([3])]));
     }
 
     #[test]
@@ -354,9 +358,9 @@ mod tests {
         logs.insert(3, two[3].clone());
         logs.sort();
         let told = judged(&header, &logs);
-        assert_eq!(told.evidence.iter().map(|it| (it.0.general, it.0.kind)).collect::<Vec<_>>(), [(3, 1)]);
-        assert_eq!((told.verdict.said, &told.verdict.faulty[..]), (Said::Agreed(2), &[3][..]));
-        assert_eq!(told.decided, [Some(2); 5]);
+        assert_eq!(told.evidence.iter().map(|it| (it.0, &it.1[..])).collect::<Vec<_>>(), [(3, "K1")]);
+        assert_eq!(said(&told), (Verdict::Agreed, Some(2), vec![3]));
+        assert_eq!(told.decided([0, 1, 2, 3, 3].into_iter()), [Some(2); 5]);
     }
 
     #[test]

@@ -15,21 +15,23 @@ use std::time::{Duration, Instant};
 
 use sd_notify::NotifyState;
 
-use super::index::{self, Change, Convicted, Index, Kept, Log, Raised, Run, Stored};
+use super::index::{failed, Alarm, Change, Holds, Index, Kept, Log, Packed, Raised, Stored, MOST_LOGS as LOGS_OF_NODE};
 use super::judge::{self, Judged};
 use super::presence::{Presence, DOWN_AFTER};
 use super::rebuild::{self, Found, Rebuild};
 use super::trust::Trust;
-use super::{alarms, Counts};
+use super::{alarms, Counts, MOST_ALARMS};
 use crate::clock::{self, Guard, Look};
 use crate::config::WatchFile;
+use crate::index::judged::roots_of;
+use crate::index::{Conviction, Run, Source, Verdict};
 use crate::systems::{self, Systems};
+use crate::threads::side_by_side;
 use crate::{disk, End};
 
-/// How many logs go into one transaction, how many runs are judged at a time, and how many alarms are told at a time.
+/// How many logs go into one transaction, and how many runs are judged at a time.
 const MOST_AT_ONCE: usize = 64;
 pub const MOST_RUNS: usize = 8;
-const MOST_ALARMS: u32 = 16;
 /// How many runs are remembered with their headers.
 const MOST_HEADERS: usize = 64;
 /// How many runs have a folder together.
@@ -40,7 +42,7 @@ pub const VERDICT: &str = ".verdict.json";
 /// What the name of the file ends with that tells what was judged of a run before.
 pub const EARLIER: &str = ".earlier.json";
 /// How many logs of each node a bundle has at most, where some wait beside it, and what stands in front of them.
-const MOST_LOGS: usize = 2 * index::MOST_LOGS;
+const MOST_LOGS: usize = 2 * LOGS_OF_NODE;
 const FRONT_OF_BUNDLE: usize = 1 << 20;
 /// Who may read these files.
 const MODE: u32 = 0o644;
@@ -56,7 +58,7 @@ const CATCHING_UP_MS: i64 = 3_600_000;
 /// What the thread is asked for.
 pub enum Job {
     /// To keep a log, and to say what became of it once this is durable.
-    Keep(Log, SyncSender<Kept>),
+    Keep(Packed, SyncSender<Kept>),
     /// To raise an alarm.
     Raise(Raised),
     /// An alarm was told.
@@ -125,7 +127,8 @@ pub struct Case {
     /// Each log with the number that its node has in the run, ascending by that and by the digest.
     pub logs: Vec<(u32, Log)>,
     before: Option<Run>,
-    convicted: Vec<Convicted>,
+    /// Who is convicted by what was judged before, or by evidence that lay in the folder.
+    convicted: Vec<Conviction>,
     /// What lay in the folder and was not in the index.
     found: Found,
 }
@@ -136,8 +139,8 @@ struct Open {
     since: Instant,
 }
 
-/// The row of a run, with its convictions and its files.
-type Row = (Run, Vec<Convicted>, Vec<Stored>);
+/// The row of a run, with its files.
+type Row = (Run, Vec<Stored>);
 
 /// The thread's own.
 pub struct Keeper {
@@ -147,7 +150,7 @@ pub struct Keeper {
     trust: Trust,
     pub folder: PathBuf,
     pub counts: Arc<Counts>,
-    pub to_tell: SyncSender<index::Alarm>,
+    pub to_tell: SyncSender<Alarm>,
     /// For which runs logs wait.
     open: BTreeMap<u32, Open>,
     /// The least number of a run that was not judged, and the greater ones that were.
@@ -168,19 +171,6 @@ pub struct Keeper {
 /// The error of a fault of the library, or of the system.
 pub fn wrong(told: impl std::fmt::Display) -> io::Error {
     io::Error::new(io::ErrorKind::Other, told.to_string())
-}
-
-/// Makes a folder, durably, and those above it.
-pub fn make_folder(path: &Path) -> io::Result<()> {
-    if path.is_dir() {
-        return Ok(());
-    }
-    if let Some(above) = path.parent().filter(|above| !above.as_os_str().is_empty()) {
-        make_folder(above)?;
-        fs::create_dir(path).or_else(|told| if path.is_dir() { Ok(()) } else { Err(told) })?;
-        return File::open(above)?.sync_all();
-    }
-    fs::create_dir(path)
 }
 
 /// What the names of the files of a run begin with: its number and the digest of its bundle, so that what was judged before
@@ -206,18 +196,18 @@ impl Keeper {
         runs: Arc<Runs>,
         times: Times,
         counts: Arc<Counts>,
-        to_tell: SyncSender<index::Alarm>,
+        to_tell: SyncSender<Alarm>,
         guard: Arc<Guard>,
         longest: usize,
     ) -> io::Result<Keeper> {
         let folder = file.watch.folder.clone();
-        make_folder(&folder)?;
+        disk::make_folder(&folder)?;
         let index = Index::open(&file.watch.database, &hex::encode(file.system.id), runs.systems.nodes())?;
         let (next, judged) = judged_by(&index, file.watch.first)?;
         let rebuild = Rebuild::begin(&folder, &index, file.watch.first)?;
         let mut keeper = Keeper {
             open: open_by(&index)?,
-            trust: Trust::new(guard, index.clock_said().map_err(index::failed)?),
+            trust: Trust::new(guard, index.clock_said().map_err(failed)?),
             presence: presence_by(&index, runs.systems.nodes())?,
             most_bundle: MOST_LOGS * runs.systems.nodes() as usize * longest + FRONT_OF_BUNDLE,
             index,
@@ -235,7 +225,7 @@ impl Keeper {
             alarmed: None,
         };
         // What a crash has left of those that were replaced last.
-        for path in keeper.index.replaced(MOST_RUNS).map_err(index::failed)? {
+        for path in keeper.index.replaced(MOST_RUNS).map_err(failed)? {
             keeper.remove(&path);
         }
         keeper.check_bundles()?;
@@ -283,7 +273,7 @@ impl Keeper {
         if self.alarmed.map_or(true, |last| last.elapsed() >= TRIED_AGAIN) {
             self.alarmed = Some(Instant::now());
             let raised = alarms::of_node("disk", None, None, &told.to_string(), clock::now_ms());
-            let alarm = index::Alarm { place: -1, alarm: raised.text.to_string() };
+            let alarm = Alarm { place: -1, alarm: raised.text.to_string() };
             self.telling += usize::from(self.to_tell.try_send(alarm).is_ok());
         }
         std::thread::sleep(AFTER_FAILURE);
@@ -324,7 +314,7 @@ impl Keeper {
             raised.iter().try_for_each(|alarm| part.raise(alarm, now))?;
             logs.iter().map(|(log, _)| part.keep(log, now)).collect::<rusqlite::Result<Vec<_>>>()
         });
-        let kept = kept.map_err(index::failed)?;
+        let kept = kept.map_err(failed)?;
         self.told.clear();
         raised.iter().for_each(|alarm| self.counts.alarms.with_label_values(&[alarm.kind]).inc());
         for ((log, answer), kept) in logs.into_iter().zip(kept) {
@@ -337,7 +327,7 @@ impl Keeper {
     }
 
     /// A log waits now.
-    fn opened(&mut self, log: &Log, now: i64) {
+    fn opened(&mut self, log: &Packed, now: i64) {
         let nodes = self.index.nodes(log.number).unwrap_or(1);
         self.open.insert(log.number, Open { nodes, since: Instant::now() });
         if self.times.end(log.number) < self.times.started {
@@ -357,7 +347,7 @@ impl Keeper {
             (self.times.started, self.times.last_old) = (look.now_ms, look.now_ms);
         }
         if let Some(alarm) = alarm {
-            self.index.in_one(|part| part.raise(&alarm, look.now_ms)).map_err(index::failed)?;
+            self.index.in_one(|part| part.raise(&alarm, look.now_ms)).map_err(failed)?;
             self.counts.alarms.with_label_values(&[alarm.kind]).inc();
             self.trust.is_raised(&alarm);
         }
@@ -401,7 +391,9 @@ impl Keeper {
         }
         let cases: Vec<io::Result<Case>> = ready.iter().map(|&number| self.case(number)).collect();
         let begun = Instant::now();
-        let judged = side_by_side(cases);
+        let audits = vamuretu::audits();
+        let judged = judged_of(cases);
+        self.counts.audits.inc_by(vamuretu::audits() - audits);
         self.counts.judging.observe(begun.elapsed().as_secs_f64() / judged.len() as f64);
         let mut whole = vec![];
         for (&number, judged) in ready.iter().zip(judged) {
@@ -426,14 +418,15 @@ impl Keeper {
     /// folder and are not in the index.
     pub fn case(&self, number: u32) -> io::Result<Case> {
         let run = self.runs.get(number).map_err(wrong)?;
-        let before = self.index.run(number).map_err(index::failed)?;
-        let mut logs = self.index.waiting(number).map_err(index::failed)?;
+        let before = self.index.run(number).map_err(failed)?;
+        let waiting = self.index.waiting(number).map_err(failed)?;
+        let mut logs = waiting.into_iter().map(unpacked).collect::<io::Result<Vec<Log>>>()?;
         let mut found = self.rebuild.found(number);
-        let named = before.as_ref().and_then(|it| it.file.as_ref()).map(|it| &it.path);
+        let named = before.as_ref().and_then(path_of);
         // An older index may name a bundle that was replaced.
         let named = named.filter(|path| found.bundles.is_empty() || self.folder.join(path).exists());
-        let named = named.filter(|path| !found.bundles.contains(path));
-        for path in named.into_iter().chain(&found.bundles) {
+        let named = named.filter(|path| !found.bundles.iter().any(|it| it == path));
+        for path in named.into_iter().chain(found.bundles.iter().map(String::as_str)) {
             for (general, bytes) in judge::logs_of(&run.run_id, &self.bundle(number, path)?)? {
                 let node = *run.nodes.get(general as usize).ok_or_else(|| wrong("a log of no node"))?;
                 logs.push(Log { number, node, sha256: judge::digest(&bytes), bytes });
@@ -443,7 +436,7 @@ impl Keeper {
         let mut logs = logs.into_iter().map(general).collect::<io::Result<Vec<_>>>()?;
         logs.sort();
         logs.dedup();
-        let mut convicted = self.index.convicted(number).map_err(index::failed)?;
+        let mut convicted = before.as_ref().map_or_else(Vec::new, |it| it.convicted.clone());
         convicted.extend(self.convicted_by(&run, &mut found, &convicted));
         self.read_earlier(number, &mut found);
         Ok(Case { run, logs, before, convicted, found })
@@ -459,41 +452,44 @@ impl Keeper {
         }
     }
 
-    /// Writes the files of a run, and makes its row and its convictions.
+    /// Writes the files of a run, and makes its row.
     fn write(&self, case: &Case, judged: Option<&Judged>, now: i64) -> io::Result<Row> {
-        let number = case.run.number;
-        let mut row = row_of(case, judged, now);
-        let Some(judged) = judged else { return Ok((row, vec![], vec![])) };
-        make_folder(&self.folder.join(format!("{:07}", number / TOGETHER)))?;
-        let stem = stem(number, &judged.sha256);
+        let Some(judged) = judged else { return Ok((gap_of(case, now), vec![])) };
+        let (number, answer) = (case.run.number, &judged.answer);
+        disk::make_folder(&self.folder.join(format!("{:07}", number / TOGETHER)))?;
+        let stem = stem(number, &answer.input);
         let (path, verdict) = (format!("{stem}{BUNDLE}"), format!("{stem}{VERDICT}"));
         // A bundle that is there stays as it was compressed, so that its digest is as it was.
         let there = case.found.bundles.contains(&path).then(|| fs::read(self.folder.join(&path))).transpose()?;
         let is_same =
             |packed: &Vec<u8>| judge::unpack(packed, judged.bundle.len()).map_or(false, |it| it == judged.bundle);
         let packed = there.filter(is_same).map_or_else(|| judge::pack(&judged.bundle), Ok)?;
-        let mut files = vec![self.store(&path, &packed, None)?, self.store(&verdict, judged.json.as_bytes(), None)?];
+        let bundle = Holds::Bundle { input: answer.input.clone(), bytes: judged.bundle.len() };
+        let mut files =
+            vec![self.store(&path, &packed, bundle)?, self.store(&verdict, answer.json.as_bytes(), Holds::Verdict)?];
         files.extend(case.found.stored.iter().cloned());
         let earlier = self.earlier(case)?;
         if !earlier.is_empty() {
             let text = serde_json::to_string(&earlier)?;
-            files.push(self.store(&format!("{stem}{EARLIER}"), text.as_bytes(), None)?);
+            files.push(self.store(&format!("{stem}{EARLIER}"), text.as_bytes(), Holds::Earlier)?);
         }
-        let (sha256, bytes, stored) = (judged.sha256.clone(), judged.bundle.len(), packed.len());
-        row.file = Some(index::File { path, sha256, bytes, stored });
+        let mut row = row_of(case, judged, now)?;
+        row.path = Some(path.into());
         let mut convicted = case.convicted.clone();
-        for (conviction, evidence) in &judged.evidence {
-            let node = case.run.nodes[conviction.general as usize];
-            let (path, kind) = (format!("{stem}{}", evidence_of(node)), format!("K{}", conviction.kind));
+        for (general, kind, evidence) in &judged.evidence {
+            let node = case.run.nodes[*general as usize];
             // Evidence that an alarm has named stays that of its kind.
-            if convicted.iter().any(|it| (it.node, &it.kind) == (node, &kind)) {
+            if convicted.iter().any(|it| (it.node, &it.kind) == (node, kind)) {
                 continue;
             }
-            files.push(self.store(&path, evidence, Some((node, kind.clone())))?);
-            convicted.push(Convicted { node, kind, path });
+            let path = format!("{stem}{}", evidence_of(node));
+            files.push(self.store(&path, evidence, Holds::Evidence { node, kind: kind.clone() })?);
+            convicted.push(conviction_of(node, kind.clone(), path));
         }
-        convicted.sort_by(|one, other| (one.node, &one.kind).cmp(&(other.node, &other.kind)));
-        Ok((row, convicted, files))
+        convicted.sort();
+        name_roots(case, &mut convicted)?;
+        row.convicted = convicted;
+        Ok((row, files))
     }
 
     /// What was judged of a run before.
@@ -501,8 +497,8 @@ impl Keeper {
         if !case.found.earlier.is_empty() {
             return Ok(case.found.earlier.clone());
         }
-        let mut changes = self.index.changes(case.run.number).map_err(index::failed)?;
-        changes.extend(case.before.as_ref().map(Change::from));
+        let mut changes = self.index.changes(case.run.number).map_err(failed)?;
+        changes.extend(self.index.as_change(case.run.number).map_err(failed)?);
         Ok(changes)
     }
 
@@ -510,8 +506,8 @@ impl Keeper {
     fn forget(&self, case: &Case, judged: Option<&Judged>) {
         let number = case.run.number;
         let Some(judged) = judged else { return };
-        let (stem, path) = (stem(number, &judged.sha256), bundle_path(number, &judged.sha256));
-        let was = case.before.as_ref().and_then(|was| was.file.as_ref()).map(|file| &file.path);
+        let (stem, path) = (stem(number, &judged.answer.input), bundle_path(number, &judged.answer.input));
+        let was = case.before.as_ref().and_then(path_of);
         if was == Some(&path) || case.found.bundles.contains(&path) {
             return;
         }
@@ -522,73 +518,78 @@ impl Keeper {
     }
 
     /// Writes a file, by its path in the folder, unless it has these bytes.
-    fn store(&self, path: &str, bytes: &[u8], evidence: Option<(u32, String)>) -> io::Result<Stored> {
+    fn store(&self, path: &str, bytes: &[u8], holds: Holds) -> io::Result<Stored> {
         let at = self.folder.join(path);
         match File::open(&at) {
             Ok(file) if fs::read(&at)? == bytes => file.sync_all()?,
             _ => disk::put(&at, MODE, bytes)?,
         }
-        Ok(Stored { path: path.to_owned(), sha256: judge::digest(bytes), evidence })
+        Ok(Stored { path: path.to_owned(), sha256: judge::digest(bytes), bytes: bytes.len(), holds })
     }
 
     /// Writes down what was judged, and its alarms, in one transaction.
     fn put_down(&mut self, judged: &[(Case, Option<Judged>)], rows: &[Row], now: i64) -> io::Result<()> {
         let (mut raised, mut presence) = (vec![], self.presence.clone());
-        for ((case, _), (row, convicted, _)) in judged.iter().zip(rows) {
-            raised.extend(self.alarms_of(case, row, convicted, &mut presence)?);
+        for ((case, _), (row, _)) in judged.iter().zip(rows) {
+            raised.extend(self.alarms_of(case, row, &mut presence)?);
         }
-        let rebuilt = self.rebuild.rebuilt(rows.iter().map(|(row, convicted, _)| (row.number, convicted.len())));
+        let taken_in = judged.iter().zip(rows).map(|((case, _), (row, _))| (case.run.number, row.convicted.len()));
+        let rebuilt = self.rebuild.rebuilt(taken_in);
         let told = self.index.in_one(|part| {
-            for ((case, judged), (row, convicted, files)) in judged.iter().zip(rows) {
-                let decided = judged.as_ref().map_or(&[][..], |it| &it.decided[..]);
-                let logs: Vec<_> = case.logs.iter().map(|it| &it.1).zip(decided.iter().copied()).collect();
-                part.judged(row, &logs, convicted, files)?;
+            for ((case, judged), (row, files)) in judged.iter().zip(rows) {
+                let generals = case.logs.iter().map(|it| it.0);
+                let decided = judged.as_ref().map_or_else(Vec::new, |it| it.decided(generals));
+                let logs: Vec<_> = case.logs.iter().map(|it| &it.1).zip(decided).collect();
+                part.judged(case.run.number, row, &logs, files)?;
                 if !case.found.earlier.is_empty() {
-                    part.put_changes(row.number, &case.found.earlier)?;
+                    part.put_changes(case.run.number, &case.found.earlier)?;
                 }
             }
             rebuilt.iter().try_for_each(|more| part.add_rebuilt(more))?;
             raised.iter().try_for_each(|it| part.raise(it, now))
         });
-        told.map_err(index::failed)?;
+        told.map_err(failed)?;
         self.presence = presence;
-        for ((case, _), (row, convicted, _)) in judged.iter().zip(rows) {
-            self.counts.runs.with_label_values(&[row.verdict.as_str()]).inc();
-            self.counts.convictions.inc_by((convicted.len() - case.convicted.len().min(convicted.len())) as u64);
-            if let Some(file) = &row.file {
-                self.counts.bytes.with_label_values(&["bundles"]).inc_by(file.bytes as u64);
-                self.counts.bytes.with_label_values(&["stored"]).inc_by(file.stored as u64);
-            }
-            self.closed(row.number);
+        for ((case, _), (row, files)) in judged.iter().zip(rows) {
+            self.count(case, row, files);
+            self.closed(case.run.number);
         }
-        for ((case, _), (row, convicted, _)) in judged.iter().zip(rows) {
-            let was = case.before.as_ref().and_then(|was| was.file.as_ref()).map(|file| &file.path);
-            let is_other = |was: &&String| row.file.as_ref().map_or(false, |file| file.path != **was);
-            was.into_iter().chain(&case.found.bundles).filter(is_other).for_each(|path| self.remove(path));
-            case.found.unnamed(convicted).for_each(|path| drop(fs::remove_file(self.folder.join(path))));
-            self.rebuild.done(row.number, &case.found);
+        for ((case, _), (row, _)) in judged.iter().zip(rows) {
+            let was = case.before.as_ref().and_then(path_of);
+            let is_other = |was: &&str| path_of(row).map_or(false, |path| path != *was);
+            let found = case.found.bundles.iter().map(String::as_str);
+            was.into_iter().chain(found).filter(is_other).for_each(|path| self.remove(path));
+            case.found.unnamed(&row.convicted).for_each(|path| drop(fs::remove_file(self.folder.join(path))));
+            self.rebuild.done(case.run.number, &case.found);
         }
         raised.iter().for_each(|it| self.counts.alarms.with_label_values(&[it.kind]).inc());
         Ok(())
     }
 
+    /// Counts a run that was judged.
+    fn count(&self, case: &Case, row: &Run, files: &[Stored]) {
+        self.counts.runs.with_label_values(&[row.verdict.word()]).inc();
+        self.counts.convictions.inc_by(row.convicted.len().saturating_sub(case.convicted.len()) as u64);
+        for it in files {
+            if let Holds::Bundle { bytes, .. } = it.holds {
+                self.counts.bytes.with_label_values(&["bundles"]).inc_by(bytes as u64);
+                self.counts.bytes.with_label_values(&["stored"]).inc_by(it.bytes as u64);
+            }
+        }
+    }
+
     /// The alarms of a run that was judged. A run that the index lacked raises none, since it has raised them before.
-    fn alarms_of(
-        &self,
-        case: &Case,
-        row: &Run,
-        convicted: &[Convicted],
-        presence: &mut Presence,
-    ) -> io::Result<Vec<Raised>> {
+    fn alarms_of(&self, case: &Case, row: &Run, presence: &mut Presence) -> io::Result<Vec<Raised>> {
         if case.found.is_lost {
             return Ok(vec![]);
         }
-        let most = case.run.traitors as usize;
-        let before = case.before.as_ref().map(|was| (was, &case.convicted[..]));
-        let mut raised = alarms::of(row, convicted, most, before);
-        raised.retain(|it| it.kind != "gap" || !self.rebuild.had(row.number));
-        for kind in before.map_or_else(Vec::new, |before| alarms::taken_back(row, convicted, most, before)) {
-            let place = self.index.raised(row.number, kind).map_err(index::failed)?;
+        let (number, most) = (case.run.number, case.run.traitors as usize);
+        // Evidence that lay in the folder was told of before.
+        let before = case.before.as_ref().map(|was| Run { convicted: case.convicted.clone(), ..was.clone() });
+        let mut raised = alarms::of(row, most, before.as_ref());
+        raised.retain(|it| it.kind != "gap" || !self.rebuild.had(number));
+        for kind in before.iter().flat_map(|before| alarms::taken_back(row, most, before)) {
+            let place = self.index.raised(number, kind).map_err(failed)?;
             raised.push(alarms::take_back(kind, row, place));
         }
         raised.extend(presence.learn(row, case.before.as_ref()));
@@ -622,7 +623,7 @@ impl Keeper {
         if self.telling > 0 {
             return Ok(());
         }
-        for alarm in self.index.untold(MOST_ALARMS).map_err(index::failed)? {
+        for alarm in self.index.untold(MOST_ALARMS as u32).map_err(failed)? {
             if self.to_tell.try_send(alarm).is_err() {
                 break;
             }
@@ -634,14 +635,14 @@ impl Keeper {
 
 /// The runs for which logs wait in an index.
 fn open_by(index: &Index) -> io::Result<BTreeMap<u32, Open>> {
-    let (begun, since) = (index.begun().map_err(index::failed)?, Instant::now());
+    let (begun, since) = (index.begun().map_err(failed)?, Instant::now());
     Ok(begun.into_iter().map(|(number, nodes)| (number, Open { nodes, since })).collect())
 }
 
 /// The least number from the first one on of a run that was not judged, and the greater ones that were.
 fn judged_by(index: &Index, first: u32) -> io::Result<(u32, BTreeSet<u32>)> {
     let (mut next, mut judged) = (first, BTreeSet::new());
-    for number in index.judged(first).map_err(index::failed)? {
+    for number in index.judged(first).map_err(failed)? {
         if number == next {
             next += 1;
         } else {
@@ -653,56 +654,83 @@ fn judged_by(index: &Index, first: u32) -> io::Result<(u32, BTreeSet<u32>)> {
 
 /// Which nodes are there, by an index.
 fn presence_by(index: &Index, nodes: u32) -> io::Result<Presence> {
-    let last = index.missing_last(DOWN_AFTER).map_err(index::failed)?;
+    let last = index.missing_last(DOWN_AFTER).map_err(failed)?;
     let missing: Vec<Vec<u32>> = last.iter().map(|it| it.1.clone()).collect();
     Ok(Presence::of(nodes, last.first().map(|it| it.0), &missing))
 }
 
-/// The row of a run, but for its file.
-fn row_of(case: &Case, judged: Option<&Judged>, now: i64) -> Run {
-    let run = &case.run;
-    let nodes = |generals: &mut dyn Iterator<Item = u32>| {
-        let mut nodes: Vec<u32> = generals.filter_map(|it| run.nodes.get(it as usize).copied()).collect();
+/// The path of the bundle of a run, if it has one.
+fn path_of(run: &Run) -> Option<&str> {
+    run.path.as_deref().and_then(Path::to_str)
+}
+
+/// The log that waits, as it was before it was compressed.
+fn unpacked(waiting: Packed) -> io::Result<Log> {
+    let Packed { number, node, sha256, bytes, packed } = waiting;
+    Ok(Log { number, node, sha256, bytes: judge::unpack(&packed, bytes)? })
+}
+
+/// A conviction with the file of its evidence. The root is named when the run is written.
+pub fn conviction_of(node: u32, kind: String, path: String) -> Conviction {
+    Conviction { node, kind, other: 0, root: String::new(), evidence: Some(path) }
+}
+
+/// Tells the roots of those who are convicted.
+fn name_roots(case: &Case, convicted: &mut [Conviction]) -> io::Result<()> {
+    if convicted.is_empty() {
+        return Ok(());
+    }
+    let roots = roots_of(case.run.header.as_bytes()).map_err(wrong)?.pop().unwrap_or_default();
+    for it in convicted {
+        let root = case.run.general_of(it.node).and_then(|general| roots.get(general as usize));
+        it.root = root.cloned().ok_or_else(|| wrong("a conviction of no node"))?;
+    }
+    Ok(())
+}
+
+/// The row of a run that was judged, but for its file and who is convicted.
+fn row_of(case: &Case, judged: &Judged, now: i64) -> io::Result<Run> {
+    let run = judged.answer.runs.first().ok_or_else(|| wrong("a bundle of no run"))?;
+    let nodes = |list: &judge::List| {
+        let mut nodes: Vec<u32> = list.iter().filter_map(|it| case.run.nodes.get(*it as usize).copied()).collect();
         nodes.sort_unstable();
         nodes
     };
-    let with: BTreeSet<u32> = case.logs.iter().map(|(general, _)| *general).collect();
-    let mut without = (0..run.nodes.len() as u32).filter(|it| !with.contains(it));
-    let missing = nodes(&mut without);
-    let (verdict, value) = match judged.map(|it| &it.verdict.said) {
-        None => ("gap", None),
-        Some(vamuretu::Said::Agreed(value)) => ("agreed", Some(*value)),
-        Some(vamuretu::Said::Explained(_)) => ("explained", None),
-        Some(vamuretu::Said::No(_)) => ("no", None),
-    };
+    let others = judged.others.iter().map(nodes).collect();
+    Ok(Run { source: Source::Watcher, number: Some(case.run.number), others, judged: now, ..run.clone() })
+}
+
+/// The row of a run without logs.
+fn gap_of(case: &Case, now: i64) -> Run {
+    let mut nodes = case.run.nodes.clone();
+    nodes.sort_unstable();
     Run {
-        number: run.number,
-        run_id: hex::encode(run.run_id),
-        verdict: verdict.into(),
-        value,
-        listed: judged.map_or_else(|| missing.clone(), |it| nodes(&mut it.verdict.faulty.iter().copied())),
-        others: judged
-            .map_or_else(Vec::new, |it| it.others.iter().map(|list| nodes(&mut list.iter().copied())).collect()),
-        missing,
-        file: None,
+        source: Source::Watcher,
+        number: Some(case.run.number),
+        run_id: hex::encode(case.run.run_id),
+        nodes: case.run.nodes.clone(),
+        generals: case.run.header.generals(),
+        traitors: case.run.traitors,
+        verdict: Verdict::Gap,
+        order: None,
+        assumed_faulty: nodes.clone(),
+        others: vec![],
+        missing: nodes,
+        suspected: vec![],
+        findings: vec![],
+        equal_roots: vec![],
+        convicted: vec![],
+        path: None,
+        place: 0,
         library: vamuretu::version(),
         judged: now,
-        nodes: run.nodes.clone(),
     }
 }
 
-/// Judges cases, by a thread for each core. A case without logs is a gap.
-fn side_by_side(cases: Vec<io::Result<Case>>) -> Vec<io::Result<(Case, Option<Judged>)>> {
-    let threads = std::thread::available_parallelism().map_or(1, |it| it.get()).min(cases.len().max(1));
-    let mut shares: Vec<Vec<io::Result<Case>>> = (0..threads).map(|_| vec![]).collect();
-    let count = cases.len();
-    cases.into_iter().enumerate().for_each(|(place, case)| shares[place % threads].push(case));
-    let mut parts: Vec<_> = std::thread::scope(|scope| {
-        let each = |share: Vec<io::Result<Case>>| share.into_iter().map(|case| one(case?)).collect::<Vec<_>>();
-        let started: Vec<_> = shares.into_iter().map(|share| scope.spawn(move || each(share))).collect();
-        started.into_iter().map(|it| it.join().unwrap_or_default().into_iter()).collect()
-    });
-    (0..count).map(|place| parts[place % threads].next().unwrap_or_else(|| Err(wrong("a thread ended")))).collect()
+/// Judges cases side by side. A case without logs is a gap.
+fn judged_of(cases: Vec<io::Result<Case>>) -> Vec<io::Result<(Case, Option<Judged>)>> {
+    let judged = side_by_side(cases, |case| one(case?));
+    judged.into_iter().map(|it| it.unwrap_or_else(|_| Err(wrong("a thread has failed")))).collect()
 }
 
 /// Judges a case. What lay in the folder was not looked at when it came.

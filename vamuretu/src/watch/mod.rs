@@ -10,7 +10,6 @@ mod presence;
 mod rebuild;
 mod trust;
 
-use std::path::Path;
 use std::sync::atomic::{AtomicBool, Ordering};
 use std::sync::mpsc::sync_channel;
 use std::sync::Arc;
@@ -22,8 +21,8 @@ use tokio::net::TcpListener;
 use tokio::signal::unix::{signal, SignalKind};
 
 use crate::config::{self, WatchFile};
-use crate::disk::{self, Lock};
 use crate::frames::Transport;
+use crate::index::lock;
 use crate::systems::Systems;
 use crate::{clock, descriptors, metrics, End};
 use collect::{Door, Turn};
@@ -37,6 +36,7 @@ const MOST_ALARMS: usize = 16;
 const REFUSED: &str =
     "Messages that were refused: message (none that a node sends), number (no run that has begun), bytes (no \
     compressed log), unsealed (not sealed in this run), third (a third log of a run).";
+const AUDITS: &str = "Whole audits, in each of which all signatures of a bundle are verified: one of an agreed run.";
 const FAILURES: &str =
     "What failed: disk (it did not take something), judging (of a run), hook (the program of an alarm).";
 
@@ -46,6 +46,7 @@ pub struct Counts {
     pub refused: IntCounterVec,
     pub runs: IntCounterVec,
     pub convictions: IntCounter,
+    pub audits: IntCounter,
     pub alarms: IntCounterVec,
     pub failures: IntCounterVec,
     pub bytes: IntCounterVec,
@@ -75,6 +76,8 @@ impl Counts {
         };
         let convictions = IntCounter::new("vamuretu_watch_convictions_total", "Convictions of runs that were judged.")?;
         registry.register(Box::new(convictions.clone()))?;
+        let audits = IntCounter::new("vamuretu_watch_audits_total", AUDITS)?;
+        registry.register(Box::new(audits.clone()))?;
         let judging = HistogramOpts::new("vamuretu_watch_judging_seconds", "How long a run took to be judged.");
         let judging = Histogram::with_opts(judging.buckets(vec![0.001, 0.003, 0.01, 0.03, 0.1, 0.3, 1.0, 3.0, 10.0]))?;
         registry.register(Box::new(judging.clone()))?;
@@ -84,6 +87,7 @@ impl Counts {
             refused: vector("refused_total", REFUSED, "reason")?,
             runs: vector("runs_total", "Runs that were judged: agreed, explained, no or gap.", "verdict")?,
             convictions,
+            audits,
             alarms: vector("alarms_total", "Alarms that were raised, by their kind.", "kind")?,
             failures: vector("failures_total", FAILURES, "of")?,
             bytes: vector("bytes_total", "Bytes of bundles, and of stored files of these.", "of")?,
@@ -95,16 +99,6 @@ impl Counts {
             silent: gauges("silent_runs", "Runs one behind another in which no log of a node came.", "node")?,
             judging,
         })
-    }
-}
-
-/// Keeps others from the folder of the index as long as the program runs. An index that is a link would be in another folder.
-pub fn lock(index: &Path) -> Result<Lock, End> {
-    let folder = disk::folder_of(index);
-    keep::make_folder(folder).map_err(End::file(folder))?;
-    match std::fs::symlink_metadata(index) {
-        Ok(told) if told.is_symlink() => Err(End::fault(index, "a link, and no index")),
-        _ => Lock::take(folder),
     }
 }
 

@@ -3,7 +3,8 @@
 use prometheus::IntGaugeVec;
 
 use super::alarms;
-use super::index::{Raised, Run};
+use super::index::Raised;
+use crate::index::{Run, Verdict};
 
 /// In how many runs one behind another no log of a node comes before it is down.
 pub const DOWN_AFTER: u32 = 10;
@@ -64,20 +65,18 @@ impl Presence {
     /// Learns of a run that was judged, perhaps again, and tells which alarms that raises. A run behind a later one tells
     /// only who is there.
     pub fn learn(&mut self, run: &Run, before: Option<&Run>) -> Vec<Raised> {
-        let is_later = before.is_none() && self.last.map_or(true, |last| run.number > last);
-        self.last = self.last.max(Some(run.number));
+        let is_later = before.is_none() && run.number > self.last;
+        self.last = self.last.max(run.number);
         let mut raised = vec![];
-        let is_gap = run.verdict == "gap";
+        let is_gap = run.verdict == Verdict::Gap;
         for (node, silence) in (0..).zip(&mut self.silent) {
             let was_missing = before.map_or(true, |was| was.missing.contains(&node));
             let alarm = match run.missing.contains(&node) {
-                true if is_later => silence.goes_on(run.number, node, is_gap),
+                true if is_later => silence.goes_on(run.number.unwrap_or_default(), node, is_gap),
                 false if was_missing => silence.ends(node),
                 _ => None,
             };
-            raised.extend(
-                alarm.map(|(kind, said)| alarms::of_node(kind, Some(run.number), Some(node), &said, run.judged)),
-            );
+            raised.extend(alarm.map(|(kind, said)| alarms::of_node(kind, run.number, Some(node), &said, run.judged)));
         }
         raised
     }
@@ -92,22 +91,11 @@ impl Presence {
 
 #[cfg(test)]
 mod tests {
+    use super::super::index::tests::run as judged;
     use super::*;
 
     fn run(number: u32, missing: &[u32]) -> Run {
-        Run {
-            number,
-            run_id: "a".repeat(64),
-            verdict: "agreed".to_owned(),
-            value: Some(1),
-            listed: missing.to_vec(),
-            others: vec![],
-            missing: missing.to_vec(),
-            file: None,
-            library: "1.2.3".to_owned(),
-            judged: 7,
-            nodes: vec![0, 1, 2, 3],
-        }
+        judged(number, Verdict::Agreed, missing)
     }
 
     fn kinds(raised: &[Raised]) -> Vec<(&'static str, Option<u32>)> {
@@ -139,7 +127,7 @@ mod tests {
         let told: Vec<u32> =
             (0..250).filter(|&number| !presence.learn(&run(number, &absent(number)), None).is_empty()).collect();
         assert_eq!(told, [0, ABSENT_AGAIN, 2 * ABSENT_AGAIN]);
-        let gap = Run { verdict: "gap".to_owned(), ..run(900, &[0, 1, 2, 3]) };
+        let gap = judged(900, Verdict::Gap, &[0, 1, 2, 3]);
         assert_eq!(kinds(&presence.learn(&gap, None)), []);
     }
 

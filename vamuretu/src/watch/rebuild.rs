@@ -13,9 +13,11 @@ use std::path::Path;
 
 use serde_json::json;
 
-use super::index::{self, Change, Convicted, Index, Raised, Rebuilt, Stored};
-use super::keep::{bundle_path, evidence_of, wrong, Case, Keeper, BUNDLE, EARLIER, MOST_RUNS, TOGETHER};
+use super::index::{failed, Change, Holds, Index, Raised, Rebuilt, Stored};
+use super::keep::{bundle_path, conviction_of, evidence_of, wrong, Case, Keeper, BUNDLE, EARLIER, MOST_RUNS, TOGETHER};
 use super::{alarms, judge};
+use crate::config::MOST_ORDERS;
+use crate::index::Conviction;
 use crate::systems::Run;
 use crate::{clock, disk};
 
@@ -23,9 +25,8 @@ use crate::{clock, disk};
 const EVIDENCE: &str = ".evidence";
 /// The most bytes of a file that tells what was judged before.
 const MOST_EARLIER: usize = 1 << 20;
-/// How long a version is at most, and how many values there are.
+/// How long a version is at most.
 const MOST_VERSION: usize = 64;
-const MOST_VALUE: u32 = 15;
 /// The last millisecond of the year 9999.
 const LAST_MOMENT: i64 = 253_402_300_799_999;
 /// How many files that can't be read are named.
@@ -47,8 +48,8 @@ pub struct Found {
 
 impl Found {
     /// Evidence that no conviction names, of a run that was judged before the program was stopped.
-    pub fn unnamed<'a>(&'a self, convicted: &'a [Convicted]) -> impl Iterator<Item = &'a String> {
-        let is_named = |path: &&String| convicted.iter().any(|it| it.path == **path);
+    pub fn unnamed<'a>(&'a self, convicted: &'a [Conviction]) -> impl Iterator<Item = &'a String> {
+        let is_named = |path: &String| convicted.iter().any(|it| it.evidence.as_ref() == Some(path));
         self.evidence.iter().filter(move |path| !self.is_lost && !is_named(path))
     }
 }
@@ -88,8 +89,8 @@ impl Rebuild {
             lost: VecDeque::new(),
             found: BTreeMap::new(),
             held: held.unwrap_or_default(),
-            place: index.rebuilding().map_err(index::failed)?.map(|it| it.place),
-            below: index.rebuilt_below().map_err(index::failed)?,
+            place: index.rebuilding().map_err(failed)?.map(|it| it.place),
+            below: index.rebuilt_below().map_err(failed)?,
             unread: BTreeSet::new(),
             faults: vec![],
             is_over: false,
@@ -201,9 +202,8 @@ fn is_own(change: &Change, number: u32, nodes: u32) -> bool {
     is_file
         && is_version
         && change.library.bytes().all(|it| it.is_ascii_graphic())
-        && change.listed.iter().chain(&change.missing).all(is_node)
-        && ["agreed", "explained", "no", "gap"].contains(&change.verdict.as_str())
-        && change.value.map_or(true, |value| value < MOST_VALUE)
+        && change.assumed_faulty.iter().chain(&change.missing).all(is_node)
+        && change.order.map_or(true, |order| order < MOST_ORDERS)
         && (0..=LAST_MOMENT).contains(&change.judged)
 }
 
@@ -220,7 +220,7 @@ pub fn check_seals(case: &Case) -> io::Result<()> {
 impl Keeper {
     /// Refuses a folder none of whose first bundles is of the system, where nothing was judged.
     pub fn check_bundles(&mut self) -> io::Result<()> {
-        if !self.index.is_empty().map_err(index::failed)? {
+        if !self.index.is_empty().map_err(failed)? {
             return Ok(());
         }
         for below in self.rebuild.folders.clone() {
@@ -268,7 +268,7 @@ impl Keeper {
         let numbers = below * TOGETHER..(below + 1) * TOGETHER;
         let mut files = files_of(&self.folder, below)?;
         let last = files.keys().next_back().copied();
-        let known = self.index.bundles(numbers.clone()).map_err(index::failed)?;
+        let known = self.index.bundles(numbers.clone()).map_err(failed)?;
         files.retain(|number, found| match known.get(number) {
             Some(Some(path)) => found.bundles != [path.as_str()],
             _ => true,
@@ -298,7 +298,7 @@ impl Keeper {
             None => part.begin_rebuilding(below, now),
             Some(place) => part.add_rebuilt(&Rebuilt { place, runs: 0, convictions: 0, below }).map(|()| place),
         });
-        self.rebuild.place = Some(place.map_err(index::failed)?);
+        self.rebuild.place = Some(place.map_err(failed)?);
         self.rebuild.below = self.rebuild.below.max(below);
         Ok(())
     }
@@ -306,12 +306,12 @@ impl Keeper {
     /// All folders were compared: an alarm says what was taken in, and another one what could not be read.
     fn end_rebuilding(&mut self) -> io::Result<()> {
         let now = clock::now_ms();
-        let rebuilt = self.index.rebuilding().map_err(index::failed)?;
+        let rebuilt = self.index.rebuilding().map_err(failed)?;
         let mut raised: Vec<Raised> = vec![];
         if let Some(it) = &rebuilt {
             let numbers = self.rebuild.first.min(it.below)..it.below;
             let unread = self.rebuild.unread.range(numbers.clone()).count() as u32;
-            let there = self.index.with_logs(numbers.clone()).map_err(index::failed)? + unread;
+            let there = self.index.with_logs(numbers.clone()).map_err(failed)? + unread;
             raised.push(alarm_of(it, (numbers.end - numbers.start).saturating_sub(there), now));
         }
         if !self.rebuild.faults.is_empty() {
@@ -323,7 +323,7 @@ impl Keeper {
             rebuilt.iter().try_for_each(|it| part.end_rebuilding(it.place, now))?;
             raised.iter().try_for_each(|it| part.raise(it, now))
         });
-        done.map_err(index::failed)?;
+        done.map_err(failed)?;
         raised.iter().for_each(|it| self.counts.alarms.with_label_values(&[it.kind]).inc());
         (self.rebuild.place, self.rebuild.held, self.rebuild.is_over) = (None, 0..0, true);
         rebuilt.map_or(Ok(()), |_| self.learn_presence())
@@ -351,15 +351,15 @@ impl Keeper {
     }
 
     /// Whom evidence convicts that lies beside a lost bundle, beyond those that are known.
-    pub fn convicted_by(&self, run: &Run, found: &mut Found, known: &[Convicted]) -> Vec<Convicted> {
-        let mut more: Vec<Convicted> = vec![];
+    pub fn convicted_by(&self, run: &Run, found: &mut Found, known: &[Conviction]) -> Vec<Conviction> {
+        let mut more: Vec<Conviction> = vec![];
         if !found.is_lost {
             return more;
         }
         for path in &found.evidence {
             match self.evidence(run, path) {
                 Ok((convicted, stored)) => {
-                    let is_same = |it: &Convicted| (it.node, &it.kind) == (convicted.node, &convicted.kind);
+                    let is_same = |it: &Conviction| (it.node, &it.kind) == (convicted.node, &convicted.kind);
                     if !known.iter().chain(&more).any(is_same) {
                         more.push(convicted);
                     }
@@ -372,14 +372,14 @@ impl Keeper {
     }
 
     /// A file of evidence, and whom it convicts.
-    fn evidence(&self, run: &Run, path: &str) -> io::Result<(Convicted, Stored)> {
+    fn evidence(&self, run: &Run, path: &str) -> io::Result<(Conviction, Stored)> {
         let bytes = read(&self.folder.join(path), self.most_bundle)?;
         let (general, kind) = judge::accused(&run.run_id, &bytes)?.ok_or_else(|| wrong("it does not hold"))?;
         let node = run.nodes.get(general as usize).copied().filter(|node| path.ends_with(&evidence_of(*node)));
         let node = node.ok_or_else(|| wrong("it is against another node"))?;
-        let stored =
-            Stored { path: path.to_owned(), sha256: judge::digest(&bytes), evidence: Some((node, kind.clone())) };
-        Ok((Convicted { node, kind, path: path.to_owned() }, stored))
+        let holds = Holds::Evidence { node, kind: kind.clone() };
+        let stored = Stored { path: path.to_owned(), sha256: judge::digest(&bytes), bytes: bytes.len(), holds };
+        Ok((conviction_of(node, kind, path.to_owned()), stored))
     }
 }
 
@@ -398,6 +398,7 @@ fn alarm_of(it: &Rebuilt, gaps: u32, now: i64) -> Raised {
 #[cfg(test)]
 mod tests {
     use super::*;
+    use crate::index::Verdict;
     use std::path::PathBuf;
 
     fn folder(name: &str) -> PathBuf {
@@ -469,7 +470,7 @@ mod tests {
     #[test]
     fn evidence_that_nothing_names_goes() {
         let evidence = vec!["a".to_owned(), "b".to_owned()];
-        let convicted = [Convicted { node: 1, kind: "K2".to_owned(), path: "b".to_owned() }];
+        let convicted = [conviction_of(1, "K2".to_owned(), "b".to_owned())];
         let left = Found { evidence, ..Found::default() };
         assert_eq!(left.unnamed(&convicted).collect::<Vec<_>>(), ["a"]);
         assert_eq!(Found { is_lost: true, ..left }.unnamed(&convicted).count(), 0);
@@ -479,23 +480,23 @@ mod tests {
     fn a_change_is_of_its_run() {
         let sha256 = "a1".repeat(32);
         let own = Change {
-            verdict: "explained".to_owned(),
-            value: None,
-            listed: vec![1, 3],
+            verdict: Verdict::Explained,
+            order: None,
+            assumed_faulty: vec![1, 3],
             missing: vec![3],
             path: Some(bundle_path(12_345, &sha256)),
             sha256: Some(sha256.clone()),
             library: "1.2.3".to_owned(),
             judged: 7,
         };
-        let gap = Change { verdict: "gap".to_owned(), path: None, sha256: None, ..own.clone() };
+        let gap = Change { verdict: Verdict::Gap, path: None, sha256: None, ..own.clone() };
         assert!(is_own(&own, 12_345, 4) && is_own(&gap, 12_345, 4));
         assert!(!is_own(&own, 12_346, 4) && !is_own(&own, 12_345, 3));
         for path in ["../../file", "/etc/file", "0000012/../../file.bundle.zst", ""] {
             assert!(!is_own(&Change { path: Some(path.to_owned()), ..own.clone() }, 12_345, 4), "{path}");
         }
         assert!(!is_own(&Change { path: None, ..own.clone() }, 12_345, 4));
-        assert!(!is_own(&Change { verdict: "yes".to_owned(), ..own.clone() }, 12_345, 4));
+        assert!(!is_own(&Change { order: Some(MOST_ORDERS), ..own.clone() }, 12_345, 4));
         assert!(!is_own(&Change { judged: i64::MAX, ..own.clone() }, 12_345, 4));
         assert!(!is_own(&Change { sha256: Some("A".repeat(64)), ..own }, 12_345, 4));
     }
