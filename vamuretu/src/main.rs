@@ -245,16 +245,25 @@ fn perform(command: &Command) -> Result<bool, End> {
     done.map(|()| false)
 }
 
-/// Writes to standard output.
-fn write(text: &str) -> Result<(), End> {
-    io::stdout().write_all(text.as_bytes()).map_err(|told| End::unusable("standard output", &told))
+/// Writes to standard output. Tells whether somebody reads it.
+fn write_read(text: &str) -> Result<bool, End> {
+    match io::stdout().write_all(text.as_bytes()) {
+        Err(told) if told.kind() == io::ErrorKind::BrokenPipe => Ok(false),
+        told => told.map(|()| true).map_err(|told| End::unusable("standard output", &told)),
+    }
 }
 
-/// Has events be said on standard error, a JSON object each. A process that goes on has a thread that says them.
+/// Writes to standard output.
+fn write(text: &str) -> Result<(), End> {
+    write_read(text).map(|_| ())
+}
+
+/// Has events be said on standard error, a JSON object each. A process that goes on has a thread that says them. Other commands
+/// say what is wrong alone.
 fn say_events(command: &Command) -> Result<Option<lines::Lines>, End> {
     let events = tracing_subscriber::fmt().json().flatten_event(true);
     if !goes_on(command) {
-        events.with_writer(io::stderr).init();
+        events.with_max_level(tracing::Level::WARN).with_writer(io::stderr).init();
         return Ok(None);
     }
     let lines = lines::Lines::to(io::stderr()).map_err(|told| End::unusable("a thread", &told))?;

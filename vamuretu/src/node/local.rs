@@ -451,7 +451,9 @@ fn tell_some(file: &NodeFile, request: &Json, most: usize) -> Result<(), End> {
     };
     for line in ask(file, request).map_err(no_answer)?.take(most) {
         let line = line.map_err(wrong)?;
-        crate::write(&format!("{line}\n"))?;
+        if !crate::write_read(&format!("{line}\n"))? {
+            return Ok(());
+        }
         if line.starts_with("{\"refused\"") {
             return Err(End::failed("the node refuses"));
         }
