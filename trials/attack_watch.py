@@ -23,7 +23,7 @@ SHORT = 500
 BELOW = 6
 # The tables of an index by which it is compared with one that was made anew. When something was judged or came is not among them.
 TABLES = {
-    "runs": "SELECT number, run_id, verdict, decided, assumed_faulty, others, missing, suspected, findings, path, library, nodes FROM runs",
+    "runs": "SELECT number, run_id, verdict, decided, assumed_faulty, others, missing, path, suspected, findings, library, nodes FROM runs",
     "logs": "SELECT number, node, sha256, bytes, decided FROM logs",
     "convictions": "SELECT number, node, kind, evidence FROM convictions JOIN runs ON id = run",
     "files": "SELECT number, path, sha256, bytes, input, input_bytes, node, kind FROM files",

@@ -12,7 +12,7 @@ use crate::archive::files;
 use crate::archive::room::Rooms;
 use crate::clock;
 use crate::index::judged::Answer;
-use crate::index::{Run, Verdict};
+use crate::index::{Conviction, Run, Verdict};
 use crate::text::spelled;
 use crate::End;
 
@@ -45,10 +45,11 @@ pub fn page(asked: &Report, names: &Names) -> Result<Page, End> {
     let judged = judge(asked, &input)?;
     let answer = Answer::of(&judged, &input).map_err(wrong)?;
     let mut page = Page::new(&format!("Report on {}", spelled(asked.of.file_name().unwrap_or_default())));
-    if asked.run.is_empty() && asked.system.is_none() {
+    let is_pinned = !asked.run.is_empty() || asked.system.is_some();
+    if !is_pinned {
         page.verdict(false, &[worth::ALONE]);
     }
-    said(&mut page, &answer, names);
+    said(&mut page, &answer, names, is_pinned);
     page.text(worth::AGREED);
     convicted(&mut page, &answer, names, &asked.of);
     page.head("In the program's own words");
@@ -86,15 +87,19 @@ fn generals(answer: &Answer, names: &Names) -> String {
     answer.runs.iter().map(of).collect()
 }
 
-/// The verdicts, run by run. A run is well if all agreed, nobody is convicted, and enough nodes speak for the correct ones.
-fn said(page: &mut Page, answer: &Answer, names: &Names) {
+/// The verdicts, run by run. A run is well if all agreed, nobody is convicted, and enough nodes speak for the correct ones. In a run
+/// that nobody pinned, the holder of a root is convicted.
+fn said(page: &mut Page, answer: &Answer, names: &Names, is_pinned: bool) {
     for run in &answer.runs {
         let number = run.number.map_or_else(|| run.run_id.clone(), |number| number.to_string());
         let order = run.order.map_or_else(String::new, |order| format!(" The order is {order}."));
         let mut lines = vec![format!("Run {number}: {}. {}{order}", run.verdict, worth::verdict(run.verdict))];
         lines.extend((!run.speaks()).then(|| worth::few(run.speaking())));
-        let convicted = |node, kind: &str| format!("Signatures convict {} by {kind}.", names.in_run(node, &run.nodes));
-        lines.extend(run.convicted.iter().map(|it| convicted(it.node, &it.kind)));
+        let who = |it: &Conviction| match is_pinned {
+            true => names.in_run(it.node, &run.nodes),
+            false => format!("the holder of the root {:.16}.., general {} of this run,", it.root, it.node),
+        };
+        lines.extend(run.convicted.iter().map(|it| format!("Signatures convict {} by {}.", who(it), it.kind)));
         if run.convicted.is_empty() {
             lines.push("Nobody is convicted.".into());
         }
