@@ -171,12 +171,12 @@ pub fn audit<R: Threads + Wait + Sync, G: JobGate + Sync>(
     gate: &G,
 ) -> Result<Judgement, AuditFault>
     // The verdict is the bundle's. It is a no with exactly the findings, if there are any. Otherwise it is the order on
-    // which the rest agree if at most m generals are held for faulty, or else what each of the rest decided.
+    // which the rest agree if at most m generals are assumed faulty, or else what each of the rest decided.
     ensures verdict { IfOk result (λ judgement. IsVerdict bundle.now judgement.verdict) }
     // The verdict is a yes if and only if the bundle supports one (its field `exactly`). It supports one if all of this
     // is so. At least one general is of the rest, each of the rest has one log, and it verifies. The walks bound the
     // diameter of the rest. In one run, in which no signature of the rest is forged, all of the rest follow and keep
-    // exactly these logs. If at most m generals are held for faulty, such a bundle's verdict is the one order that all
+    // exactly these logs. If at most m generals are assumed faulty, such a bundle's verdict is the one order that all
     // of the rest decided. It is the commander's order if the commander is of the rest (its field `agreed`).
     ensures headline { IfOk result (λ judgement. Headline bundle.now judgement.verdict) }
     // Exactly the generals with a first claim against them are convicted, each by that claim.

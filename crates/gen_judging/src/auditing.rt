@@ -79,7 +79,7 @@ pub(crate) fn output_by(
 
 /// Returns in this form the judgement on the bundle or the campaign that the input spells, whose runs must be the ones
 /// that are asked for. For a bundle it is a no if and only if the bundle doesn't support a yes. For a campaign it is a
-/// no if and only if some run's bundle doesn't support a yes. If generals are asked for, these are held for faulty in
+/// no if and only if some run's bundle doesn't support a yes. If generals are asked for, these are assumed faulty in
 /// place of the ones that it lists, and the walks are the best ones between the others, or none if two of them have no
 /// short one; header and exhibits stay. What says no counts as a no. If it is asked strictly, so does a yes that says
 /// `explained`, and a yes if two generals have the same root: a line for each such pair then ends an answer that is

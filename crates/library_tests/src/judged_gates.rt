@@ -167,7 +167,7 @@ fn count_of(workers: usize) -> Result<WorkerCount, Fail> {
     Ok(WorkerCount::new(workers).ok_or("no count")?)
 }
 
-/// The judgement on a run in which nobody is held for faulty, over edges of so much room, by so many workers,
+/// The judgement on a run in which nobody is assumed faulty, over edges of so much room, by so many workers,
 /// which the gates see; or why there is none.
 fn judged<R: Threads + Wait + Sync>(
     rt: &R,
@@ -238,7 +238,7 @@ fn runs_are_judged_while_they_go_on(rt: HostRuntime) -> Result<(), Fail> {
     Ok(())
 }
 
-/// The bundle of a scenario's run, in which nobody is held for faulty.
+/// The bundle of a scenario's run, in which nobody is assumed faulty.
 fn bundle_of(alloc: Global, scenario: &Scenario) -> Result<Bundle, Fail> {
     let exhibits = exhibits_of_logs(alloc, logs_of_run(alloc, scenario)?)?;
     let walks = walks_of(alloc, scenario)?;

@@ -311,7 +311,7 @@ pub extern "C" fn sm_node_free(alloc: Global, node: &mut SmNode)
 /// Hands out the bytes of the bundle of a run. Its parts are the header's bytes, the set of the generals that are held
 /// for faulty (bit g for general g), walks between the others, and the collected logs. The logs stand one after another
 /// in `bytes`, in ascending order of their generals. It is misuse if the set has a general above 15, or if `bytes` are
-/// not exactly these logs. If two generals that aren't held for faulty have no short walk, the least such pair is told;
+/// not exactly these logs. If two generals that aren't assumed faulty have no short walk, the least such pair is told;
 /// but if `parted` is not 0, the bundle then has no walks. The audit finds that.
 #[unsafe(no_mangle)]
 pub extern "C" fn sm_node_bundle(
