@@ -27,7 +27,8 @@ names g Nobody = false
 abbrev pub status_of : List ℕ → List Finding → List Accusation → ℕ → Status
 status_of faulty findings convictions g =
     if list_any (λ x. x.accused == g) convictions then Convicted
-    else (if is_among faulty g then Held else (if list_any (names g) findings then Suspected else NothingFound))
+    else (if is_among faulty g then Held
+    else (if list_any (names g) findings then Suspected else NothingFound))
 
 -- the word for a status
 abbrev pub status_word : Status → List ℕ
