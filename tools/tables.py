@@ -1,6 +1,7 @@
 #!/usr/bin/env python3
 """Makes tables and lists of the pages: the list of trials/README.md, each subject of trials/run.py with the first paragraph of
-its docstring, and those of docs/REFERENCE.md and docs/socket.schema.json (tables_vamuretu.py).
+its docstring, those of docs/REFERENCE.md and docs/socket.schema.json (tables_vamuretu.py), and those of docs/EMBED.md
+(tables_embed.py).
 
     tools/tables.py            writes the tables into the pages
     tools/tables.py --check    writes nothing; where a page has another table it says so, and the status is 1
@@ -10,6 +11,7 @@ import os
 import re
 import sys
 
+import tables_embed
 import tables_vamuretu
 from version import TOP, read
 
@@ -52,10 +54,11 @@ def made():
     """Each file that has what is made here, with the text that it has then."""
     page = os.path.join(TRIALS, "README.md")
     yield page, with_table(read(page), HEADING, subjects_list())
-    text = read(tables_vamuretu.REFERENCE)
-    for heading, rows in tables_vamuretu.TABLES.items():
-        text = with_table(text, heading, rows())
-    yield tables_vamuretu.REFERENCE, text
+    for page, tables in ((tables_vamuretu.REFERENCE, tables_vamuretu.TABLES), (tables_embed.PAGE, tables_embed.TABLES)):
+        text = read(page)
+        for heading, rows in tables.items():
+            text = with_table(text, heading, rows())
+        yield page, text
     yield tables_vamuretu.SCHEMA, tables_vamuretu.schema()
 
 

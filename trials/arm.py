@@ -20,11 +20,11 @@ import sys
 import tempfile
 
 from bends import bend_receipts
-from datagrams import Direct
+from datagrams import ALL, SILENT, Direct
 from draws import Draws
 from embed import EMBED, TOP, WARNINGS, IsNotBuilt, do, example_cases, first_wrong, kept_cases, words_of
 from pinned import answer_of, read, runs_of
-from processes import ARCHIVE, FOUR, OF_C, try_system
+from processes import ARCHIVE, OF_C, try_system
 from programs import End, by_library, differs, run, side_by_side
 from release import ENV, digests, make_repository, record
 from release import do as do_there
@@ -115,9 +115,12 @@ def try_actuator(program, tally, folder):
 
 
 def try_nodes(program, tally, folder):
-    """Four nodes as processes."""
+    """Four nodes as processes, and again with one that never begins."""
     made = {"node": [built(folder, "node", *sources("node", "heap"), archive("sm_node"))]}
-    try_system(tally, "nodes over UDP", program, made, Direct(socket.AF_INET), folder, FOUR)
+    for name, system in (("nodes over UDP", ALL), ("a node that is silent", SILENT)):
+        place = os.path.join(folder, name)
+        os.mkdir(place)
+        try_system(tally, name, program, made, Direct(socket.AF_INET), place, system)
 
 
 def try_judging(program, tally, folder):
