@@ -394,7 +394,8 @@ def try_saved(shown, folder, tally, links):
 def try_answers(told, tally):
     """That the sentences, the evidence and the pictures are there that the answers want."""
     said = {name: it["said"] for name, it in told.items()}
-    starts = {"split.bundle": "Convicted: general 0 by K2. Yes, agreed:", "bent.bundle": "No:", "cut.bundle": "Not judged"}
+    starts = {"split.bundle": "Convicted: general 0 by K2. Yes, agreed:", "bent.bundle": "Convicted: general 0 by K2. No:",
+              "cut.bundle": "Not judged"}
     starts |= {"series.bundles": "Convicted in run 1: general 0 by K2. Convicted in run 3: general 0 by K2. Yes, agreed:"}
     starts |= {"one_left.bundle": "Explained, but not agreed:", "explained.bundle": "Convicted: general 0 by K3, general 1 by K4. Explained,"}
     starts["few.bundle"] = "Convicted: general 0 by K2. Agreed on order 0 by too few: 2 generals are not assumed faulty, and 3 are needed"
@@ -440,7 +441,7 @@ def try_facts(program, told, files, tally):
     tables = told["split.bundle"]["tables"]
     tally.hold("the generals", None if tables == [SPLIT] else f"{tables}")
     warned = {name: [it.split(":")[0] for it in told[name]["warnings"]] for name in told if told[name]["warnings"]}
-    wanted = {"parted.bundle": ["No walk"], "one_root.bundle": ["Equal roots"]}
+    wanted = {"parted.bundle": ["No walk"], "one_root.bundle": ["Equal roots"], "one_left.bundle": ["Equal roots"]}
     tally.hold("warnings", None if warned == wanted else f"{warned}")
     count = len(told["series.bundles"]["tables"])
     tally.hold("the runs of a campaign", None if count == 4 else f"{count} tables")
