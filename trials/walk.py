@@ -23,7 +23,7 @@ INDENT, PROMPT = "    ", "    $ "
 def shown(document, section=None, without=None):
     """The commands that a document shows, each with what it prints: of a section alone, or without one."""
     rows, is_open, heading = [], False, None
-    with open(os.path.join(TOP, "crates", "docs", document), encoding="utf-8") as lines:
+    with open(os.path.join(TOP, "docs", document), encoding="utf-8") as lines:
         for line in lines:
             heading = line.strip("# \n") if line.startswith("## ") else heading
             if section not in (None, heading) or heading == without is not None:
