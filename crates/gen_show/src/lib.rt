@@ -17,5 +17,4 @@ pub mod laws;
 mod logs;
 mod showing;
 
-pub use headers::{push_edges, push_header, push_numbers};
-pub use showing::{faulty, push_fault, show};
+pub use showing::show;
