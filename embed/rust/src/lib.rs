@@ -6,9 +6,9 @@
 //! The jobs are what `sm_tool` does over bytes: [`audit`], [`draw`], [`accuse`], [`evidence`], [`receipt`], [`receipts`],
 //! [`decide`], [`show`], [`explain`], [`words`] and [`plan`]. Some have a twin that takes the run ids that are expected,
 //! as [`audit_of`]. Threads may make them at the same time. [`judge`] and [`decisions`] give the answers of two of them
-//! in their parts. [`shown`] tells an actuator the value that receipts show, a [`Device`] obeys the decisions of a
-//! system, and [`combine`] makes one value of several. A [`Node`] is driven over the caller's transport, by any thread, one
-//! call at a time. A [`Bundle`] of logs is what `audit` judges.
+//! in their parts, and a [`Judged`] all that is told of one audit. [`shown`] tells an actuator the value that receipts
+//! show, a [`Device`] obeys the decisions of a system, and [`combine`] makes one value of several. A [`Node`] is driven over
+//! the caller's transport, by any thread, one call at a time. A [`Bundle`] of logs is what `audit` judges.
 //!
 //! A [`KeptState`] hands out the seeds of one [`Secret`] for many runs. [`enroll`], [`identity`], [`system`], [`admission`]
 //! and [`admit`] make what its nodes share, and [`Expected`] has an admission in the place of run ids.
@@ -20,6 +20,7 @@ mod device;
 mod fault;
 mod header;
 mod jobs;
+mod judged;
 mod kept;
 mod node;
 mod raw;
@@ -40,6 +41,7 @@ pub use jobs::{
 };
 pub use jobs::{evidence, evidence_json, evidence_of, explain, judge, plan, receipt, receipts, receipts_json, refute};
 pub use jobs::{run_ids, show, show_json, show_of, version, versions_match, words, Answer, Expected, RunId};
+pub use judged::Judged;
 pub use kept::{KeptState, StateFault};
 pub use node::{shown, Bundle, FrameHead, Keys, Node};
 pub use states::{Secret, SetState, SystemId};
