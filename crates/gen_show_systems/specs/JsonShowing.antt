@@ -1,5 +1,7 @@
 -- What a system, an admission, a file of roots and receipts are, as lines of JSON.
 use Rattle.std.specs.Prelude.{ℕ, ◌≡◌, ◌↔◌, IsTrue, Bool, List, [], ◌++◌, codes, Result, Ok, Err}
+use Rattle.serde_json.specs.Data.{Data}
+use Rattle.gen_json.specs.LineLists.{AreLines}
 use Rattle.gen_json_parts.specs.BundleData.{end_line}
 use Rattle.gen_json_parts.specs.FaultData.{fault_line}
 use Rattle.gen_json_files.specs.ShowingLines.{faulty_lines}
@@ -7,12 +9,16 @@ use Rattle.gen_enroll.specs.declared.heads.RootsHead.{RootsHead}
 use Rattle.gen_enroll.specs.declared.roots_fault.RootsFault.{RootsFault}
 use Rattle.gen_enroll.specs.CutFiles.{cut_file}
 use Rattle.gen_enroll.specs.RootFiles.{RootFile}
+use Rattle.gen_enroll.specs.RootReading.{whole_file as whole_roots}
 use Rattle.gen_receipt.specs.declared.receipt_fault.ReceiptFault.{ReceiptFault}
+use Rattle.gen_receipt.specs.ReceiptReading.{whole_file as whole_receipts}
 use Rattle.gen_receipt.specs.ReceiptSpelling.{ReceiptFile, receipt_marks}
 use Rattle.gen_system.specs.declared.admission_fault.AdmissionFault.{AdmissionFault}
 use Rattle.gen_system.specs.declared.system_fault.SystemFault.{SystemFault}
+use Rattle.gen_system.specs.AdmissionReading.{whole_admission}
 use Rattle.gen_system.specs.Admissions.{SetAdmission}
 use Rattle.gen_system.specs.Admitting.{Holds}
+use Rattle.gen_system.specs.SystemReading.{whole_system}
 use Rattle.gen_system.specs.Systems.{RunSystem}
 use Rattle.gen_show_systems.specs.AdmissionData.{admission_lines}
 use Rattle.gen_show_systems.specs.FaultNames.{admission_fault_name, receipt_fault_name, roots_fault_name, system_fault_name}
@@ -65,3 +71,14 @@ abbrev pub receipts_json : List ℕ → Result ReceiptFile ReceiptFault → List
 receipts_json bytes (Ok f) = receipts_lines f
 receipts_json bytes (Err fault) =
     faulty_lines (codes "receipts") receipt_marks bytes (receipt_fault_name fault)
+
+-- the text is the lines of some values without floats
+abbrev pub HasLines : List ℕ → Type 0
+HasLines text = (values : List Data) × AreLines text values
+
+-- what is shown of each of these files as JSON is such lines
+pub record ShownAreLines : Type 0 where
+  pub systems : (bytes text : List ℕ) → text ≡ system_json (whole_system bytes) → HasLines text
+  pub admissions : (bytes text : List ℕ) → IsAdmissionJson bytes text (whole_admission bytes) → HasLines text
+  pub roots : (bytes text : List ℕ) → text ≡ roots_json bytes (whole_roots bytes) → HasLines text
+  pub receipts : (bytes text : List ℕ) → text ≡ receipts_json bytes (whole_receipts bytes) → HasLines text

@@ -13,6 +13,7 @@ mod admission_values;
 mod admissions;
 mod faults;
 mod json_showing;
+pub mod laws;
 mod parts;
 mod receipt_values;
 mod receipts;
