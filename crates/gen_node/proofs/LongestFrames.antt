@@ -1,9 +1,11 @@
 -- The frames of a general without a script are within the bounds: they have a parcel for each order at most,
 -- and each parcel is a chain with a signer for each round so far.
-use Rattle.std.proofs.Common.{◌≡◌, ◌≤◌, ◌+◌, ◌*◌, ℕ, List, [], ◌∷◌, ◌++◌, map, length, All, refl, sym, ap, subst, arith, length-append, None}
+use Rattle.std.proofs.Common.{◌≡◌, ◌<◌, ◌≤◌, ◌+◌, ◌*◌, ◌∙◌, ℕ, List, [], ◌∷◌, ◌++◌, map, length, take, get_or, All, refl, sym, ap, subst, arith, length-append, None}
 use Rattle.std.specs.List.{flat_map, AllByRecursion}
 use Rattle.std.specs.Int.{w16, w32, to_be_bytes}
 use Rattle.std.proofs.Math.Nat.{mul_comm, mul-le-mul_left, mul-le-mul_right}
+use Rattle.std.proofs.lemmas.Grind.{flat_map-append}
+use Rattle.std.proofs.lemmas.List.{take_more}
 use Rattle.std.proofs.lemmas.List.Concat.{flat_map-cons}
 use Rattle.std.proofs.lemmas.List.Elements.{recursion_from_All}
 use Rattle.gen_types.proofs.Lists.{All_of, Contains_mapped}
@@ -33,7 +35,7 @@ signers_are : (wide : ℕ) (signers : List Signer) → AllByRecursion (λ s. len
 signers_are wide [] all = omega arith
 signers_are wide (t ∷ signers) all = omega (arith, ap length (flat_map-cons signer_spelling t signers), length-append (signer_spelling t) (flat_map signer_spelling signers), all.0, signers_are wide signers all.1, suc_times (length signers) (1 + wide))
 
-parcel_length : (parcel : List ℕ) → length (parcel_spelling parcel) ≡ 4 + length parcel
+pub parcel_length : (parcel : List ℕ) → length (parcel_spelling parcel) ≡ 4 + length parcel
 parcel_length parcel = length-append (to_be_bytes w32 (length parcel)) parcel
 
 fewer_times : (one few most : ℕ) → few ≤ most → few * one ≤ one * most
@@ -60,7 +62,7 @@ front_length f is =
     let four : length (to_be_bytes w32 frame_mark) ≡ 4 = refl in
     omega (arith, length-append (to_be_bytes w32 frame_mark) (f.run_id ++ ends), four, length-append f.run_id ends, is.run_id)
 
-frame_length : (f : WireFrame) → IsFrame f → length (frame_spelling f) ≡ 41 + length (flat_map parcel_spelling f.parcels)
+pub frame_length : (f : WireFrame) → IsFrame f → length (frame_spelling f) ≡ 41 + length (flat_map parcel_spelling f.parcels)
 frame_length f is =
     let count : List ℕ = to_be_bytes w16 (length f.parcels) in
     let two : length count ≡ 2 = refl in
@@ -104,3 +106,14 @@ chains_short p log to none is =
 
 pub sent_in_bounds : (r : Recorder) (log : LogWriter) (to : ℕ) → r.standing.known.script ≡ None → IsRecord r.standing log → IsFrame (frame_to r to) → IsInBounds (header_at r) (frame_to r to)
 sent_in_bounds r log to none is spelled = in_bounds (header_at r) (frame_to r to) spelled is.low (a_parcel_an_order r.standing log to none is) (chains_short r.standing log to none is)
+
+-- ---- how long parcels are, one after another
+
+pub parcels_more : (parcels : List (List ℕ)) (i : ℕ) (parcel : List ℕ) → i < length parcels → parcel ≡ get_or parcels i parcel → length (flat_map parcel_spelling (take (i + 1) parcels)) ≡ length (flat_map parcel_spelling (take i parcels)) + (4 + length parcel)
+parcels_more parcels i parcel below is =
+    let last : length (flat_map parcel_spelling (parcel ∷ [])) ≡ 4 + length parcel
+    = ap length (flat_map-cons parcel_spelling parcel []) ∙ omega (arith, length-append (parcel_spelling parcel) [], parcel_length parcel) in
+    let whole : take (i + 1) parcels ≡ take i parcels ++ parcel ∷ [] = take_more parcels i parcel below ∙ ap (λ (p : List ℕ). take i parcels ++ p ∷ []) (sym is) in
+    ap (λ (ps : List (List ℕ)). length (flat_map parcel_spelling ps)) whole
+    ∙ ap length (flat_map-append parcel_spelling (take i parcels) (parcel ∷ []))
+    ∙ omega (arith, length-append (flat_map parcel_spelling (take i parcels)) (flat_map parcel_spelling (parcel ∷ [])), last)

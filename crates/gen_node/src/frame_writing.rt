@@ -1,5 +1,6 @@
 //! Writes frames as bytes.
 ghost use Rattle.std.specs.Prelude.{◌≡◌, ◌<◌, ◌^◌, ◌++◌, All, IfOk, OnOk, length};
+ghost use Rattle.std.specs.List.{flat_map};
 ghost use Rattle.gen_types.specs.Spelled.{Spells};
 ghost use Rattle.gen_node.specs.Frame.{IsFrame, IsFront, IsParcel, frame_spelling, parcel_spelling};
 
@@ -21,6 +22,36 @@ fn put_parcel(out: &mut Vec<u8>, parcel: &Parcel) -> Result<(), AllocError>
     let size = u32::try_from(parcel.bytes().len()).unwrap();
     out.extend_from_slice(&size.to_be_bytes())?;
     out.extend_from_slice(parcel.bytes())
+}
+
+/// The number of bytes of a frame without parcels.
+const EMPTY_FRAME: usize = 41;
+
+/// Returns the number of bytes of parcels in a frame: each has its length in four bytes in front of it.
+fn parcels_bytes(parcels: &[Parcel]) -> usize
+    requires few { length parcels.now < 2 ^ 16 }
+    requires short { All IsParcel parcels.now }
+    ensures value { result ≡ length (flat_map parcel_spelling parcels.now) }
+    ensures small { result < 2 ^ 49 }
+{
+    let mut total = 0;
+    'parcels: for parcel in parcels {
+        total += 4 + parcel.bytes().len();
+    }
+    total
+}
+
+/// Returns the number of bytes of the spelling of a frame of fewer than 2^16 parcels, each shorter than 2^32 bytes.
+#[tactic(auto, using(crate::proofs::Fitting::is_frame))]
+pub(crate) fn spelled_bytes(front: &FrameFront, parcels: &[Parcel]) -> usize
+    requires few { length parcels.now < 2 ^ 16 }
+    requires short { All IsParcel parcels.now }
+    ensures value { result ≡ length (frame_spelling
+        (record { front = front.now; parcels = parcels.now })) }
+    ensures fits { IsFrame (record { front = front.now; parcels = parcels.now }) }
+{
+    parts_fit(front.run_id, front.round, front.from, front.to);
+    EMPTY_FRAME + parcels_bytes(parcels)
 }
 
 /// Returns the one spelling of a frame of fewer than 2^16 parcels, each shorter than 2^32 bytes.

@@ -1,5 +1,5 @@
 //! One general of a run, driven from outside.
-ghost use Rattle.std.specs.Prelude.{◌≡◌, ◌<◌, ◌↔◌, IsTrue, true, Err, Some, None, IfOk, IfErr, OnOk, OnErr};
+ghost use Rattle.std.specs.Prelude.{◌≡◌, ◌<◌, ◌^◌, ◌↔◌, All, IsTrue, length, true, Err, Some, None, IfOk, IfErr, OnOk, OnErr};
 ghost use Rattle.std.specs.Str.{bytes_eq};
 ghost use Rattle.gen_types.specs.declared.reading.ReadError.TheVariants as errors;
 ghost use Rattle.gen_types.specs.Reading.{Gives};
@@ -9,7 +9,7 @@ ghost use Rattle.gen_general.specs.Participant.{IsUnused};
 ghost use Rattle.gen_general.specs.Recording.{HasOwnRoot, IsSealed, RingSealed, log_kept, log_written};
 ghost use Rattle.gen_node.specs.declared.node_fault.NodeFault.TheVariants.{Memory};
 ghost use Rattle.gen_node.specs.declared.stages.Stage.TheVariants.{Hearing, Sending};
-ghost use Rattle.gen_node.specs.Frame.{IsFrame, frame_spelling};
+ghost use Rattle.gen_node.specs.Frame.{IsFrame, IsParcel, frame_spelling};
 ghost use Rattle.gen_node.specs.Longest.{IsInBounds};
 ghost use Rattle.gen_node.specs.Loops.Kept.{IsSignedFrom, heard_one, is_sending, next_sent, of_part, sent_one};
 ghost use Rattle.gen_node.specs.Node as nodes;
@@ -18,7 +18,7 @@ ghost use Rattle.gen_node.specs.Node.{frame_to, fresh_ring, handed, header_at, n
 
 use crate::frame_fault::FrameFault;
 use crate::frame_reading::read_frame;
-use crate::frame_writing::spelled;
+use crate::frame_writing::{spelled, spelled_bytes};
 use crate::frames::{FrameFront, WireFrame};
 use crate::held::{Held, is_held, parcels_of};
 use crate::node_ends::NodeEnd;
@@ -27,6 +27,7 @@ use crate::stages::Stage;
 use gen_general::Recorder;
 use gen_net::Header;
 use gen_scenario::Part;
+use gen_script::Parcel;
 use gen_tree::{KeyRing, KeyTree};
 use gen_types::{GeneralNo, OrderNo, ReadError, check};
 use std::alloc::{AllocError, Global};
@@ -323,6 +324,39 @@ impl Node {
         Ok(())
     }
 
+    /// Returns the front of the frame of this round to a neighbour, and its parcels.
+    fn frame_parts(&self, to: GeneralNo) -> (FrameFront, &[Parcel])
+        requires { nodes.awaits self.now to ≡ true }
+        ensures frame { record { front = result.0; parcels = result.1.now }
+            ≡ frame_to self.now.recorder to }
+        ensures few { length result.1.now < 2 ^ 16 }
+        ensures short { All IsParcel result.1.now }
+        ensures bounds { IsFrame (frame_to self.now.recorder to)
+            → IsInBounds (header_at self.now.recorder) (frame_to self.now.recorder to) }
+    {
+        let front = FrameFront {
+            run_id: *self.header.run_id(),
+            round: self.recorder.round(),
+            from: self.recorder.me().get(),
+            to: to.get(),
+        };
+        let parcels = parcels_of(self.outbox.as_slice(), to);
+        (front, parcels)
+    }
+
+    /// Returns the number of bytes of the frame of this round to a neighbour, which `to_send` gives. The general must be a
+    /// neighbour, and a round must be open: `awaits` tells both. It takes no memory.
+    pub fn bytes_to_send(&self, to: GeneralNo) -> usize
+        requires { nodes.awaits self.now to ≡ true }
+        ensures value { result ≡ length (frame_spelling (frame_to self.now.recorder to)) }
+        ensures fits { IsFrame (frame_to self.now.recorder to) }
+        // A transport may drop what is not within these bounds.
+        ensures bounds { IsInBounds (header_at self.now.recorder) (frame_to self.now.recorder to) }
+    {
+        let (front, parcels) = self.frame_parts(to);
+        spelled_bytes(&front, parcels)
+    }
+
     /// Returns the bytes of the frame of this round to a neighbour. The general must be a neighbour, and a round must
     /// be open: `awaits` tells both.
     ///
@@ -337,13 +371,7 @@ impl Node {
         // A transport may drop what is not within these bounds.
         ensures bounds { IsInBounds (header_at self.now.recorder) (frame_to self.now.recorder to) }
     {
-        let front = FrameFront {
-            run_id: *self.header.run_id(),
-            round: self.recorder.round(),
-            from: self.recorder.me().get(),
-            to: to.get(),
-        };
-        let parcels = parcels_of(self.outbox.as_slice(), to);
+        let (front, parcels) = self.frame_parts(to);
         spelled(alloc, &front, parcels)
     }
 

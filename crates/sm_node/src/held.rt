@@ -85,7 +85,7 @@ impl NodeHandle {
         }
     }
 
-    /// Hands out the frame of this round to a neighbour.
+    /// Hands out the frame of this round to a neighbour. A frame that is longer than the room is not made.
     pub(crate) fn send(
         &self,
         alloc: Global,
@@ -101,6 +101,11 @@ impl NodeHandle {
         };
         if !node.awaits(to) {
             return NodeReply::Misuse;
+        }
+        let bytes = node.bytes_to_send(to);
+        if room.len() < bytes {
+            *count = bytes;
+            return NodeReply::Length;
         }
         match node.to_send(alloc, to) {
             Ok(bytes) => put(bytes.as_slice(), room, count),

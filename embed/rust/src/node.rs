@@ -5,8 +5,8 @@ use crate::header::{Header, Root, Seed, Version};
 use crate::raw::{self, written, SmFrameHead, SmLog, SmNode, SmPair};
 use crate::{Fault, RunId};
 
-/// Most frames without a chain, and small logs, fit into the first room, and each receipt into the second.
-const FIRST_ROOM: usize = 1 << 12;
+/// A frame with one signature, and small logs, fit into the first room, and each receipt into the second.
+const FIRST_ROOM: usize = 1 << 15;
 const RECEIPT_ROOM: usize = 17_500;
 /// The most walks of a bundle, the bytes of the longest, and the bytes in front of a log.
 const MOST_WALKS: usize = 120;

@@ -1,11 +1,9 @@
 use Rattle.std.proofs.Common.{◌≡◌, ◌∙◌, ◌<◌, ◌^◌, All, List, ℕ, length, true, ap, subst, sym}
-use Rattle.std.specs.Prelude.{IfOk}
-use Rattle.gen_types.specs.Spelled.{Spells}
 use Rattle.gen_net.specs.Header.{run_id_of}
 use Rattle.gen_general.specs.Participant.{sends}
 use Rattle.gen_node.specs.declared.stages.Stage.{Stage}
 use Rattle.gen_node.specs.declared.stages.Stage.TheVariants.{Open}
-use Rattle.gen_node.specs.Frame.{WireFrame, IsFrame, IsParcel, frame_spelling}
+use Rattle.gen_node.specs.Frame.{IsFrame, IsParcel}
 use Rattle.gen_node.specs.Held.{frame_in}
 use Rattle.gen_node.specs.Longest.{IsInBounds}
 use Rattle.gen_node.specs.Node.{Node, awaits, frame_to, header_at, neighbours_at}
@@ -14,7 +12,7 @@ use Rattle.gen_node.proofs.LongestFrames.{sent_in_bounds}
 use Rattle.gen_node.proofs.Rows.{frame_mapped}
 use Rattle.gen_node.proofs.ShortFrames.{few_parcels, short_parcels}
 use Rattle.gen_node.proofs.Steps.{awaits_both}
-use Rattle.gen_node.proofs.nodes.Node.to_send.Goals as goal
+use Rattle.gen_node.proofs.nodes.Node.frame_parts.Goals as goal
 
 pub returns : goal.returns
 returns c =
@@ -31,22 +29,11 @@ returns c =
       front = record { run_id = run j; round = c.round.ensures j; from = from j; to = c.get-2.ensures.value j };
       parcels = parcels j;
     } in
-    record {
-      frame = subst (λ (f : WireFrame). IfOk c.spelled.result (λ bytes. Spells IsFrame frame_spelling bytes.items f)) (same ∙ ap (λ (m : Node). frame_to m.recorder to) c.self.view_is) c.spelled.ensures.ok;
-      bounds = subst (λ (m : Node). IsInBounds (header_at m.recorder) (frame_to m.recorder to)) c.self.view_is (sent_in_bounds i.recorder (log_begun i.recorder.standing.known) to at.unscripted at.acts (subst IsFrame same c.spelled.ensures.fits));
-    }
-
-pub spelled-requires : goal.spelled-requires
-spelled-requires c =
-    let i = c.self.inside in
-    let to = c.args.to in
-    let n : Node = record { recorder = i.recorder; stage = i.stage; inbox = i.inbox.items } in
-    let may : awaits n to ≡ true = ap (λ (m : Node). awaits m to) c.self.view_is ∙ c.requires in
-    let known = awaits_both n to may in
-    let at : IsNode i.header i.recorder Open i.outbox.items = subst (λ (st : Stage). IsNode i.header i.recorder st i.outbox.items) known.0 c.self.invariant in
-    let parcels : c.parcels_of-parcels.result.now ≡ sends i.recorder.standing to = c.parcels_of-parcels.ensures ∙ ap (frame_in to) c.as_slice.ensures.value ∙ frame_mapped i.recorder to (neighbours_at i.recorder) i.outbox.items at.holds known.1 in
     let log = log_begun i.recorder.standing.known in
     record {
+      frame = same ∙ ap (λ (m : Node). frame_to m.recorder to) c.self.view_is;
       few = subst (λ (ps : List (List ℕ)). length ps < 2 ^ 16) (sym parcels) (few_parcels i.recorder.standing log to at.unscripted at.acts);
       short = subst (All IsParcel) (sym parcels) (short_parcels i.recorder.standing log to at.unscripted at.acts);
+      bounds = λ fits. subst (λ (m : Node). IsInBounds (header_at m.recorder) (frame_to m.recorder to)) c.self.view_is
+          (sent_in_bounds i.recorder log to at.unscripted at.acts (subst (λ (m : Node). IsFrame (frame_to m.recorder to)) (sym c.self.view_is) fits));
     }
