@@ -23,20 +23,20 @@
 
      SM_OK       it was done
      SM_NO       it was done, and the answer is a no: of sm_node_shown and sm_node_next_run alone
-     SM_MISUSE   the call is not allowed here, or a pointer is null though there are bytes, and nothing was changed
-     SM_FAULT    the input has a fault, and nothing was changed: *fault is its number
+     SM_MISUSE   the call is not allowed here, or a pointer is null though there are bytes, and node, keys and room stay
+     SM_FAULT    the input has a fault, and node, keys and room stay: *fault is its number
      SM_MEMORY   memory was refused, and the same call may be made again
-     SM_LENGTH   the bytes are longer than the room, and nothing was changed: call again with room for *count bytes
+     SM_LENGTH   the bytes are longer than the room, and node and room stay: call again with room for *count bytes
      SM_OTHER    the receipts are of another run than the one that is expected, or the record or the admission is of
                  another system: of sm_node_shown, sm_node_state_seed and sm_node_admit alone
 
-   At SM_MEMORY nothing was changed, but by two functions: after sm_node_begin_round a round may be half begun, and
-   after sm_node_end_round half ended. The same call continues it, and nothing is signed twice. Until it is done,
-   sm_node_hear reports SM_F1, and every other call on the node is SM_MISUSE, but sm_node_free and the calls that only
-   tell something, as sm_node_round.
+   At SM_MEMORY they stay too, but by two functions: after sm_node_begin_round a round may be half begun, and after
+   sm_node_end_round half ended. The same call continues it, and nothing is signed twice. Until it is done,
+   sm_node_hear reports SM_F1, and every other call on the node is SM_MISUSE, but sm_node_free and the calls that
+   only tell something, as sm_node_round.
 
-   At SM_FAULT alone *fault is not 0. At SM_OK and SM_LENGTH *count is the number of bytes. Otherwise it is 0. The room behind
-   the bytes keeps its old content. So does the whole room if no bytes were written.
+   At SM_FAULT alone *fault is not 0. At SM_OK and SM_LENGTH *count is the number of bytes. Otherwise it is 0. The
+   room behind the bytes keeps its old content. So does the whole room if no bytes were written.
 
    A pointer to bytes, edges, roots or logs may be null if their number is 0. If it is null and their number is not 0,
    the call is SM_MISUSE. This is tested by C in this header, before the call of the archive: no proof is about it, and
