@@ -4,7 +4,7 @@ use Rattle.gen_types.specs.declared.reading.ReadError.{ReadError}
 use Rattle.gen_types.specs.declared.reading.ReadError.TheVariants as errors
 use Rattle.gen_types.specs.Reading.{map_fault}
 use Rattle.gen_net.specs.declared.version.Version.{Version}
-use Rattle.gen_net.specs.Header.{header_spelling}
+use Rattle.gen_net.specs.Header.{IsHeader, header_spelling}
 use Rattle.gen_system.specs.Admissions.{SetAdmission}
 use Rattle.gen_system.specs.AdmissionReading.{whole_admission}
 use Rattle.gen_system.specs.Admitting.{Admits, Holds, header_of_run}
@@ -21,12 +21,14 @@ admission_read bytes = map_fault faults.Admission (whole_admission bytes)
 abbrev pub is_of_set : Version → ℕ → ℕ → Bool
 is_of_set version set run = set_of_run version run == set
 
--- The bytes are an admission that admits the header for the run in the system whose id is made beside it.
+-- The bytes are an admission that admits the header for the run in the system whose id is made beside it. The
+-- header keeps the rules of headers, so its bytes are read again.
 pub record IsAdmittedHeader (run : ℕ) (bytes : List ℕ) (made : Made) : Type 0 where
   pub admission : SetAdmission
   pub read : whole_admission bytes ≡ Ok admission
   pub admits : Admits made.system run (header_of_run admission run) admission
   pub header : made.bytes.items ≡ header_spelling (header_of_run admission run)
+  pub lawful : IsHeader (header_of_run admission run)
 
 -- the bytes are an admission that does not hold
 pub record IsFailing (bytes : List ℕ) : Type 0 where

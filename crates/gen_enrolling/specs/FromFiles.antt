@@ -25,8 +25,8 @@ abbrev pub AreEnrolled : RunSystem → (ℕ → List ℕ) → List NodeRoots →
 AreEnrolled s secret files =
     map file_told files ≡ map (file_made s secret) (range_with_len 0 s.header.network.generals)
 
--- The bytes are an admission. It admits the header of the run, in which the root of the general that a node
--- is has the keys that the node makes of its secret.
+-- The bytes are an admission. It admits the header of the run, which keeps the rules of headers, and in which
+-- the root of the general that a node is has the keys that the node makes of its secret.
 pub record BytesLead (s : RunSystem) (run : ℕ) (secret : ℕ → List ℕ) (bytes : List ℕ) : Type 0 where
   pub admission : SetAdmission
   pub read : whole_admission bytes ≡ Ok admission

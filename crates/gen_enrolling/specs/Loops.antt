@@ -1,10 +1,10 @@
 -- Where an enrolment begins, and the pieces of which each is written as it is made.
-use Rattle.std.specs.Prelude.{ℕ, ◌≡◌, ◌≤◌, ◌-◌, ◌^◌, true, false, List, ◌++◌, length, drop, Option, Result, Ok, Err}
+use Rattle.std.specs.Prelude.{ℕ, ◌≡◌, ◌≤◌, ◌-◌, ◌^◌, Bool, true, false, List, ◌++◌, length, drop, Option, Result, Ok, Err}
 use Rattle.std.specs.Io.KnownBytes.{Appends}
 use Rattle.gen_types.specs.declared.heights.TreeHeight.{TreeHeight}
 use Rattle.gen_identity.specs.Sets.{set_roots}
 use Rattle.gen_enroll.specs.RootFiles.{file_of_secret, file_spelling, roots_spelling}
-use Rattle.gen_enrolling.specs.Resuming.{goes_on}
+use Rattle.gen_enrolling.specs.Resuming.{AppendsFront, goes_on}
 use Rattle.gen_enrolling.specs.declared.enroll_error.EnrollError.{EnrollError}
 use Rattle.gen_enrolling.specs.declared.enroll_error.EnrollError.TheVariants as errors
 use Rattle.gen_enrolling.specs.declared.fronts.Begun.{Begun}
@@ -33,7 +33,16 @@ IsNotBegun secret height levels front errors.OtherRoots =
     goes_on front (file_from secret height levels) ≡ false
 IsNotBegun secret height levels front error = ⊥
 
--- the text was appended, or a write failed
+-- Some text was appended, and this is left of it.
+abbrev pub AppendsUpTo : List ℕ → List ℕ → Option (List ℕ) → Option (List ℕ) → Type 0
+AppendsUpTo text rest old new = (front : List ℕ) × (text ≡ front ++ rest) × Appends old new front
+
+-- the text was appended, if `whole` is true, and else a beginning of it
+abbrev pub AppendsAll : List ℕ → Option (List ℕ) → Option (List ℕ) → Bool → Type 0
+AppendsAll text old new true = Appends old new text
+AppendsAll text old new false = AppendsFront text old new
+
+-- the text was appended; or a write failed, and a beginning of it was
 abbrev pub WritesWhole : List ℕ → Option (List ℕ) → Option (List ℕ) → Result (Unit {0}) EnrollError → Type 0
 WritesWhole text old new (Ok done) = Appends old new text
-WritesWhole text old new (Err error) = error ≡ errors.Write
+WritesWhole text old new (Err error) = (error ≡ errors.Write) × AppendsFront text old new

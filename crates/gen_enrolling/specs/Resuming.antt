@@ -49,11 +49,11 @@ error_of (reads.Fault f) = errors.Fault f
 abbrev pub AppendsFront : List ℕ → Option (List ℕ) → Option (List ℕ) → Type 0
 AppendsFront text old new = (front rest : List ℕ) × (text ≡ front ++ rest) × Appends old new front
 
--- the text was appended; or memory was refused, and a beginning of it was; or a write failed
+-- the text was appended; or memory was refused or a write failed, and a beginning of it was
 abbrev pub Writes : List ℕ → Option (List ℕ) → Option (List ℕ) → Result (Unit {0}) EnrollError → Type 0
 Writes text old new (Ok done) = Appends old new text
 Writes text old new (Err errors.Memory) = AppendsFront text old new
-Writes text old new (Err errors.Write) = Unit {0}
+Writes text old new (Err errors.Write) = AppendsFront text old new
 Writes text old new (Err error) = ⊥
 
 -- The text was written so. If there is a fault in its place, the error is that fault, unless memory was

@@ -73,7 +73,7 @@ fn secret_of(asked: &Enrolment<'_>) -> Result<[u8; 32], EnrollFault>
 ///
 /// `Fault` with `Secret` if there are fewer or more than 32 bytes of the secret, else with `Roots` if there are more than 20
 /// levels; else `OtherRoots` if the file does not begin with the bytes that are compared, or has fewer. Memory if memory was
-/// refused, at any time. Write if a write failed.
+/// refused, at any time. Write if a write failed. A beginning of what is missing is written at Memory and Write.
 #[tactic(auto, unfolding(crate::specs::Resuming::enrolled_behind))]
 pub fn enroll<R: Threads + Sync, W: Write, P: Progress>(
     rt: &R,

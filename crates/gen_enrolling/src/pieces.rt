@@ -1,7 +1,7 @@
 //! Roots that are written piece by piece.
-ghost use Rattle.std.specs.Prelude.{◌≡◌, ◌≤◌, ◌<◌, ◌-◌, IfOk};
-ghost use Rattle.gen_enrolling.specs.Loops.{WritesWhole, roots_from};
-ghost use Rattle.gen_enrolling.specs.Resuming.{Writes};
+ghost use Rattle.std.specs.Prelude.{◌≡◌, ◌≤◌, ◌<◌, ◌-◌, IfNone, IfOk, IfSome};
+ghost use Rattle.gen_enrolling.specs.Loops.{AppendsAll, AppendsUpTo, WritesWhole, roots_from};
+ghost use Rattle.gen_enrolling.specs.Resuming.{AppendsFront, Writes};
 
 use crate::enroll_error::EnrollError;
 use crate::progress::Progress;
@@ -10,20 +10,57 @@ use gen_enroll::{append_roots, roots_of_sets};
 use gen_identity::State;
 use gen_types::TreeHeight;
 use std::alloc::{AllocError, Global};
-use std::io::Write;
+use std::io::{ErrorKind, Write};
 use std::thread::Threads;
 
 /// The most sets whose roots are made before they are written.
 const SETS_A_PIECE: u32 = 256;
 
+/// Writes some of a text, and returns what is left of it, which is all of it if the write was interrupted. None if the writer
+/// takes no more.
+#[tactic(auto, using(crate::proofs::Writing::none_written, crate::proofs::Writing::zero_written, crate::proofs::Writing::some_written, crate::proofs::Writing::again_written))]
+fn write_some<'a, W: Write>(writer: &mut W, text: &'a [u8]) -> Option<&'a [u8]>
+    ensures some { IfSome result (λ rest.
+        AppendsUpTo text.now rest.now (W.contents writer.old) (W.contents writer.new)) }
+    ensures none { IfNone result (AppendsFront text.now (W.contents writer.old) (W.contents writer.new)) }
+{
+    match writer.write(text) {
+        Ok(0) => None,
+        Ok(count) => Some(&text[count..]),
+        Err(error) if error.kind() == ErrorKind::Interrupted => Some(text),
+        Err(_) => None,
+    }
+}
+
+/// Writes a text as far as the writer takes it, and returns whether that is all of it.
+#[tactic(auto, using(crate::proofs::Writing::begun_up_to, crate::proofs::Writing::more_up_to, crate::proofs::Writing::all_up_to, crate::proofs::Writing::failed_up_to, crate::proofs::Writing::front_up_to))]
+fn write_text<W: Write>(writer: &mut W, text: &[u8]) -> bool
+    ensures { AppendsAll text.now (W.contents writer.old) (W.contents writer.new) result }
+{
+    let mut rest = text;
+    'turns: for _ in 0..u64::MAX {
+        if rest.is_empty() {
+            return true;
+        }
+        match write_some(writer, rest) {
+            Some(left) => rest = left,
+            None => return false,
+        }
+    }
+    false
+}
+
 /// Writes a text, and flushes the writer.
+#[tactic(auto, using(crate::proofs::Writing::all_flushed, crate::proofs::Writing::front_flushed, crate::proofs::Writing::front_left))]
 pub(crate) fn write_whole<W: Write>(writer: &mut W, text: &[u8]) -> Result<(), EnrollError>
     ensures { WritesWhole text.now (W.contents writer.old) (W.contents writer.new) result }
 {
-    if writer.write_all(text).is_err() || writer.flush().is_err() {
-        Err(EnrollError::Write)
-    } else {
-        Ok(())
+    if !write_text(writer, text) {
+        return Err(EnrollError::Write);
+    }
+    match writer.flush() {
+        Ok(()) => Ok(()),
+        Err(_) => Err(EnrollError::Write),
     }
 }
 
@@ -50,7 +87,7 @@ fn piece_from<R: Threads + Sync>(
 ///
 /// # Errors
 ///
-/// Memory if memory was refused, Write if a write failed.
+/// Memory if memory was refused, Write if a write failed. A beginning is written then.
 pub(crate) fn write_sets<R: Threads + Sync, W: Write, P: Progress>(
     rt: &R,
     alloc: Global,
