@@ -153,10 +153,11 @@ pub fn judge_reports(
 /// Returns the judgement on a bundle: the verdict, and the evidence that its exhibits hold. The result doesn't depend
 /// on the number of workers.
 ///
-/// Piece i is exhibit i, counted from 0. Of W workers, worker w takes the pieces w, w + W, w + 2W and so on. It reads
-/// each log, verifies its signatures and hashes its links. The first worker runs in the calling thread, each other
-/// worker in a thread of its own; one worker alone starts no thread. The gate is called for each piece by the worker
-/// that takes it. A worker calls the gate for up to `LANES` of its pieces in a row before it works on them.
+/// Piece i is exhibit i, counted from 0. Each worker takes pieces that follow one another, whole groups of `LANES`, and the
+/// last worker what is left. So no more workers run than there are such groups. A worker reads each log, verifies its
+/// signatures and hashes its links. The first worker runs in the calling thread, each other worker in a thread of its own;
+/// one worker alone starts no thread. The gate is called for each piece by the worker that takes it. A worker calls the gate
+/// for up to `LANES` of its pieces in a row before it works on them.
 ///
 /// # Errors
 ///
