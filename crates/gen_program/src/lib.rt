@@ -6,6 +6,7 @@
 #![tactic(auto)]
 
 mod admitting;
+mod ahead;
 mod answering;
 mod asking;
 mod built;

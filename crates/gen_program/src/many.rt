@@ -12,6 +12,7 @@ ghost use Rattle.gen_program.specs.Ends.{IsEnd};
 ghost use Rattle.gen_program.specs.Many.{AreEnds, AreSources, CanBeList, IsHeading, IsOfListing, IsUnlisted, NamesInput, heading_data, inputs_named, names_in, status_of_all};
 ghost use Rattle.gen_program.specs.Sources.{name_of, named_by};
 
+use crate::ahead::{Made, finish_made, made_ahead};
 use crate::answering::finish_source;
 use crate::asking::Asking;
 use crate::details::{FileName, STANDARD_INPUT, has_control};
@@ -165,11 +166,12 @@ fn heading_of(alloc: Global, job: &Job, source: Source<'_>) -> Result<Output, Jo
     Ok(Output { text, negative })
 }
 
-/// Answers one of several inputs, behind a line that says which one it is.
+/// Answers one of several inputs, behind a line that says which one it is. The answer to a file may be made already.
 fn answer_one<R: Files + Terminals + AllocGlobal + Input + Print + Eprint + Threads + Wait + Sync>(
     rt: &R,
     asking: &Asking<'_>,
     source: &Source<'_>,
+    made: Option<Made>,
 ) -> Ended
     requires { IsInRange asking.now.job.now }
     ensures { IsEnd result }
@@ -178,7 +180,10 @@ fn answer_one<R: Files + Terminals + AllocGlobal + Input + Print + Eprint + Thre
     let mut writer = WatchedWriter::new(&mut output);
     let end = deliver(&mut writer, heading_of(rt.alloc(), asking.job, *source));
     if end == JobEnd::Done {
-        finish_source(rt, asking, *source)
+        match (*source, made) {
+            (Source::Named(name), Some(made)) => finish_made(rt, asking, name, made),
+            (source, _) => finish_source(rt, asking, source),
+        }
     } else {
         Ended {
             status: end_written(rt, end, writer.failure),
@@ -188,7 +193,7 @@ fn answer_one<R: Files + Terminals + AllocGlobal + Input + Print + Eprint + Thre
 }
 
 /// Answers several inputs in their order, and returns how each ended. If an answer cannot be written, no input behind it is
-/// read.
+/// answered. Workers of an audit make the answers to so many files side by side.
 ///
 /// # Errors
 ///
@@ -202,8 +207,16 @@ fn answer_each<R: Files + Terminals + AllocGlobal + Input + Print + Eprint + Thr
     ensures { IfOk result (λ ends. AreEnds (length sources.now) ends.items) }
 {
     let mut ends = Vec::with_capacity(rt.alloc(), sources.len())?;
+    let mut made = Vec::new(rt.alloc());
+    let mut rest = sources;
     for source in sources {
-        let ended = answer_one(rt, asking, source);
+        if made.is_empty() {
+            made = made_ahead(rt, asking, rest);
+        }
+        if let Some((_, others)) = rest.split_first() {
+            rest = others;
+        }
+        let ended = answer_one(rt, asking, source, made.pop());
         ends.push_reserved(ended);
         if ended.is_last {
             return Ok(ends);

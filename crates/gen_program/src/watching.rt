@@ -66,6 +66,16 @@ impl<'a, R> WatchedReader<'a, R> {
             failure: None,
         }
     }
+
+    /// Returns the first bytes that were read, and why the last read failed, if it did.
+    pub(crate) fn into_seen(self) -> (Front, Option<io::Error>) {
+        let WatchedReader {
+            reader: _,
+            front,
+            failure,
+        } = self;
+        (front, failure)
+    }
 }
 
 impl<'a, R: Read> Read for WatchedReader<'a, R> {
