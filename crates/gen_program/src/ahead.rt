@@ -59,7 +59,7 @@ fn shared_job(asking: &Asking<'_>) -> Option<(Job, usize)>
 }
 
 /// Returns what is made of a file.
-fn made<R: Files + AllocGlobal + Threads + Wait + Sync>(rt: &R, job: Job, name: &str) -> Made
+fn made_of<R: Files + AllocGlobal + Threads + Wait + Sync>(rt: &R, job: Job, name: &str) -> Made
     requires { IsInRange job }
 {
     let mut file = match File::open(rt, name) {
@@ -113,7 +113,7 @@ fn all_made<R: Files + AllocGlobal + Threads + Wait + Sync>(
         names.len(),
         &move |at: usize| -> Made
             requires { (at < length names.now) × IsInRange job }
-        { made(rt, job, names[at]) },
+        { made_of(rt, job, names[at]) },
     )?;
     all.reverse();
     Ok(all)
