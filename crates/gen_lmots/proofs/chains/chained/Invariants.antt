@@ -1,0 +1,6 @@
+use Rattle.std.proofs.Common.{◌≡◌, ◌-◌}
+use Rattle.gen_lmots.specs.Chains.{chained}
+use Rattle.gen_lmots.proofs.chains.chained.Given as goal
+
+abbrev pub invariant-steps : goal.invariant-steps
+invariant-steps l = l.reached ≡ chained l.place l.chain l.first (l.step - l.first) l.value

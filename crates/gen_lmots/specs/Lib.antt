@@ -1,0 +1,5 @@
+pub mod Chains
+pub mod Coefficients
+pub mod Keys
+pub mod Signatures
+pub mod Strings

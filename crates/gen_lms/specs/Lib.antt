@@ -1,0 +1,5 @@
+pub mod Heights
+pub mod PublicKeys
+pub mod Rings
+pub mod Signatures
+pub mod Tree
