@@ -1,4 +1,6 @@
+pub mod Forging
 pub mod Heights
+pub mod Laws
 pub mod PublicKeys
 pub mod Rings
 pub mod Signatures

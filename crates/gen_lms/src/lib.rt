@@ -19,6 +19,7 @@
 
 mod faults;
 mod heights;
+mod laws;
 mod leaf_keys;
 mod nodes;
 mod public_keys;
@@ -29,6 +30,7 @@ mod verifying;
 
 pub use faults::{KeyFault, Refusal};
 pub use heights::LmsHeight;
+pub use laws::{forgery_gives_the_key_away, leaf_has_one_key, other_hash_gives_the_key_away};
 pub use leaf_keys::{LeafKey, SignatureRoom};
 pub use public_keys::PublicKey;
 pub use rings::KeyRing;

@@ -1,11 +1,13 @@
 //! Public keys.
-ghost use Rattle.std.specs.Prelude.{◌≡◌, ◌≤◌, ◌++◌, length, IfErr, IfOk, OnErr, OnOk};
+ghost use Rattle.std.specs.Prelude.{◌≡◌, ◌++◌, length, IfErr, IfOk, OnErr, OnOk};
 ghost use Rattle.gen_lms.specs.PublicKeys.{IsKeyFault, key_bytes, u32_of};
 
 use crate::faults::KeyFault;
 use crate::heights::LmsHeight;
 use crate::sizes::{KEY_BYTES, NUMBER_BYTES};
+use gen_lmots::append;
 use gen_lmots::sizes::{IDENTIFIER_BYTES, TYPE_CODE};
+use std::alloc::AllocError;
 
 /// The public key of a tree.
 #[derive(Clone, Copy, Debug)]
@@ -61,15 +63,20 @@ impl PublicKey {
         })
     }
 
-    /// Returns the 56 bytes of the public key.
-    pub fn to_bytes(&self) -> [u8; KEY_BYTES]
-        ensures { result ≡ key_bytes self.now }
+    /// Appends the 56 bytes of the public key.
+    ///
+    /// # Errors
+    ///
+    /// `AllocError` if memory is refused: then the vector is unchanged.
+    pub fn append_to(&self, out: &mut Vec<u8>) -> Result<(), AllocError>
+        ensures ok { OnOk result (out.new.items ≡ out.old.items ++ key_bytes self.now) }
+        ensures err { OnErr result (out.new.items ≡ out.old.items) }
     {
-        let mut bytes = [0; KEY_BYTES];
-        bytes[..4].copy_from_slice(&self.height.type_code().to_be_bytes());
-        bytes[4..8].copy_from_slice(&TYPE_CODE.to_be_bytes());
-        bytes[8..24].copy_from_slice(&self.identifier);
-        bytes[24..].copy_from_slice(&self.root);
-        bytes
+        out.reserve(KEY_BYTES)?;
+        append(out, &self.height.type_code().to_be_bytes());
+        append(out, &TYPE_CODE.to_be_bytes());
+        append(out, &self.identifier);
+        append(out, &self.root);
+        Ok(())
     }
 }

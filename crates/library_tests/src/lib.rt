@@ -1,8 +1,8 @@
 //! This crate has the tests of what is no row and no clause says.
 //!
-//! `standards` has vectors of the standards, `texts` the texts of faults that no row has, `rings` which
-//! leaves are taken, and `reports` how many verifications reports make. Runs are made by a machine
-//! (`machine`), by threads (`logs_of_runs`, `own_threads`, `early_end`), and judged while they go on
+//! `standards` and `leighton_micali` have vectors of the standards, `texts` the texts of faults that no row
+//! has, `rings` which leaves are taken, and `reports` how many verifications reports make. Runs are made by a
+//! machine (`machine`), by threads (`logs_of_runs`, `own_threads`, `early_end`), and judged while they go on
 //! (`judged_gates`). `edge_steps` has an edge, and `desk_waits` a desk.
 #![tactic(auto)]
 
@@ -20,6 +20,8 @@ mod edge_steps;
 mod gates;
 #[cfg(test)]
 mod judged_gates;
+#[cfg(test)]
+mod leighton_micali;
 #[cfg(test)]
 mod logs_of_runs;
 #[cfg(test)]

@@ -6,5 +6,5 @@ use Rattle.gen_lms.proofs.nodes.path_of.Given as goal
 
 abbrev pub invariant-levels : goal.invariant-levels
 invariant-levels l =
-    (take (hash_length * l.level) l.path ≡ path_over l.identifier l.leaves (leaves_of l.height) l.number l.level)
+    (take (hash_length * l.level) l.path ≡ path_over l.identifier l.leaves (leaves_of l.fn.height) l.number l.level)
     × (length l.path ≡ 800)
