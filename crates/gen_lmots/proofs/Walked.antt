@@ -1,6 +1,7 @@
 -- Chains that are walked in parts, and the ends to which a signature leads.
-use Rattle.std.proofs.Common.{◌≡◌, ℕ, zero, suc, ◌<◌, ◌≤◌, ◌+◌, ◌-◌, ◌*◌, List, [], ◌∷◌, ◌++◌, length, take, drop, refl, sym, ap, ◌∙◌, add-one, append_assoc, length-append, arith}
-use Rattle.std.proofs.lemmas.List.{take_at, drop_at, append-nil}
+use Rattle.std.proofs.Common.{◌≡◌, ℕ, zero, suc, ◌<◌, ◌≤◌, ◌+◌, ◌-◌, ◌*◌, List, [], ◌∷◌, ◌++◌, length, take, drop, slice_set, refl, sym, ap, ◌∙◌, add-one, append_assoc, length-append, arith}
+use Rattle.std.proofs.lemmas.List.{take_at, drop_at, append-nil, length-drop, length-set, length-take-le, take_more_set}
+use Rattle.std.proofs.Math.ListN.{drop_of_length-le}
 use Rattle.sha2.proofs.Facts256.{length-sha256}
 use Rattle.gen_lmots.specs.declared.places.KeyPlace.{KeyPlace}
 use Rattle.gen_lmots.specs.Chains.{chain_step, chained, key_over, message_hash}
@@ -9,9 +10,20 @@ use Rattle.gen_lmots.specs.Keys.{ends, public_key, secret}
 use Rattle.gen_lmots.specs.Signatures.{candidate, key_led, led_ends, shown, signature_of, value_at}
 use Rattle.gen_lmots.specs.Strings.{u32str, type_code}
 
--- a list of 32 that is written into a longer one, and a second list of two behind it
-pub placed : (a b rest : List ℕ) → length a ≡ 32 → drop 2 rest ≡ [] → take 32 (a ++ rest) ++ (b ++ drop 2 (drop 32 (a ++ rest))) ≡ a ++ b
-placed a b rest wide none = rw (take_at a rest 32 wide, drop_at a rest 32 wide, none, append-nil b) refl
+-- ---- texts that are written in place
+
+-- a list that is written behind another
+pub written : (a rest b : List ℕ) (n k : ℕ) → length a ≡ n → take n (a ++ rest) ++ (b ++ drop k (drop n (a ++ rest))) ≡ (a ++ b) ++ drop k rest
+written a rest b n k len = rw (take_at a rest n len, drop_at a rest n len) (sym (append_assoc a b (drop k rest)))
+
+-- a text of a step, in which the step's number and the value are written
+pub step-text : (text value : List ℕ) (step : ℕ) → length text ≡ 55
+    → take 23 (slice_set text 22 step) ++ (value ++ drop 32 (drop 23 (slice_set text 22 step))) ≡ take 22 text ++ (step ∷ [] ++ value)
+step-text text value step len =
+    let set = slice_set text 22 step in
+    let front : take 23 set ≡ take 22 text ++ step ∷ [] = take_more_set text 22 step (omega (arith, len)) in
+    let behind : drop 32 (drop 23 set) ≡ [] = drop_of_length-le (drop 23 set) {i = 32} (omega (arith, length-drop 23 set, length-set text 22 step, len)) in
+    rw (front, behind, append-nil value) (append_assoc (take 22 text) (step ∷ []) value)
 
 -- ---- steps
 

@@ -5,8 +5,8 @@ use Rattle.gen_lmots.specs.declared.places.KeyPlace.{KeyPlace}
 use Rattle.gen_lmots.specs.Chains.{chained, key_over}
 use Rattle.gen_lmots.specs.Strings.{chain_count, chain_steps, front, u8str, u16str}
 
--- what a contract sees of a key: the seed that its secrets come from, its place, and whether it is still to be
--- spent
+-- what a contract sees of a key: the seed that its secrets come from, its place, and whether it is still to
+-- be spent
 pub record KeyState : Type 0 where
   pub seed : List ℕ
   pub place : KeyPlace

@@ -6,8 +6,8 @@ use Rattle.gen_lmots.specs.Coefficients.{steps_signed}
 use Rattle.gen_lmots.specs.Keys.{secret}
 use Rattle.gen_lmots.specs.Strings.{chain_count, chain_steps, hash_length, type_code, u32str}
 
--- what a signature of a hash shows of the first n chains of a key: in each chain the value that stands as many
--- steps from the start as the coefficient says
+-- what a signature of a hash shows of the first n chains of a key: in each chain the value that stands as
+-- many steps from the start as the coefficient says
 unfoldable pub shown : List ℕ → KeyPlace → List ℕ → ℕ → List ℕ
 shown seed place q zero = []
 shown seed place q (suc n) =

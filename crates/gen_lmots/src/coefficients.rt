@@ -43,8 +43,8 @@ fn checked(hash: &[u8; HASH_BYTES]) -> [u8; CHECKED_BYTES]
     bytes
 }
 
-/// Returns for each chain how many steps the signature of a hash takes in it: the coefficients of the hash, and behind
-/// them those of its checksum.
+/// Returns for each chain how many steps the signature of a hash takes in it: the coefficients of the hash,
+/// and behind them those of its checksum.
 pub fn steps_signed(hash: &[u8; HASH_BYTES]) -> [u8; CHAINS]
     ensures value { (i : ℕ) → i < CHAINS → slice_index result i ≡ steps_signed hash.now i }
     ensures within { (i : ℕ) → i < CHAINS → slice_index result i ≤ CHAIN_STEPS }

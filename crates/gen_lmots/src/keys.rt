@@ -12,11 +12,11 @@ use crate::sizes::{CHAIN_STEPS, CHAINS, HASH_BYTES, OTS_BYTES, TYPE_CODE};
 use sha2::Digest;
 use std::marker::Model;
 
-/// A one-time key, which signs one message or is retired. A contract sees its seed and place, and whether it is still
-/// to be spent.
+/// A one-time key, which signs one message or is retired. A contract sees its seed and place, and whether it
+/// is still to be spent.
 ///
-/// It has no `Clone`, so it can't be copied. It has to be spent by `sign` or `retire`: code that drops a key that may be
-/// unspent can't be proved. Spending it can't fail. Its seed isn't wiped from memory.
+/// It has no `Clone`, so it can't be copied. It has to be spent by `sign` or `retire`: code that drops a key
+/// that may be unspent can't be proved. Spending it can't fail. Its seed isn't wiped from memory.
 pub struct OneTimeKey {
     seed: [u8; 32],
     place: KeyPlace,
@@ -63,8 +63,8 @@ impl OneTimeKey {
         self.place.number
     }
 
-    /// Ends the key, and appends its signature of a message with a randomizer, of `OTS_BYTES` bytes. The vector must have
-    /// room for it, so the call takes no memory and can't fail.
+    /// Ends the key, and appends its signature of a message with a randomizer, of `OTS_BYTES` bytes. The
+    /// vector must have room for it, so the call takes no memory and can't fail.
     pub fn sign(self, randomizer: &[u8; 32], message: &[u8], out: &mut Vec<u8>)
         requires { vec_len out.old + OTS_BYTES ≤ vec_capacity out.old }
         ensures bytes { out.new.items

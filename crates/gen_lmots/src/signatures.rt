@@ -35,8 +35,8 @@ fn key_led(place: &KeyPlace, hash: &[u8; HASH_BYTES], values: &[u8]) -> [u8; HAS
     hasher.finalize()
 }
 
-/// Returns the public key that a one-time signature of a message stands for. The signature must have `OTS_BYTES` bytes.
-/// Its type code isn't read: whoever calls has compared it.
+/// Returns the public key that a one-time signature of a message stands for. The signature must have
+/// `OTS_BYTES` bytes. Its type code isn't read: whoever calls has compared it.
 pub fn candidate(place: &KeyPlace, signature: &[u8], message: &[u8]) -> [u8; HASH_BYTES]
     requires { length signature.now ≡ OTS_BYTES }
     ensures { result ≡ candidate place.now signature.now message.now }

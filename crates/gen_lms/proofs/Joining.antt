@@ -74,7 +74,7 @@ paths_meet identifier r v path w other (suc n) lv lw lp lo same =
     let ours = led-suc identifier r v path n ∙ above-sides identifier j a (path_at path n) in
     let theirs = led-suc identifier r w other n ∙ above-sides identifier j b (path_at other n) in
     let met = sides_meet (j % 2 == 0) identifier (j / 2) a (path_at path n) b (path_at other n)
-        (length-led identifier r v path n lv) (length-led identifier r w other n lw) (lp n (omega arith)) (lo n (omega arith)) (sym ours ∙ same ∙ theirs) in
+    (length-led identifier r v path n lv) (length-led identifier r w other n lw) (lp n (omega arith)) (lo n (omega arith)) (sym ours ∙ same ∙ theirs) in
     elim met [
       | inr collide ↦ inr collide
       | inl e ↦ paths_meet identifier r v path w other n lv lw (λ i h. lp i (omega arith)) (λ i h. lo i (omega arith)) e

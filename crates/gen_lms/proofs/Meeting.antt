@@ -56,16 +56,18 @@ one_of whole element none grows (suc n) wide =
     let before = one_of whole element none grows n (λ i h. wide i (omega arith)) in
     let width = wide n (omega arith) in
     let all = length-append (whole n) (element n) in
-    let len : length (whole (suc n)) ≡ 32 * suc n = rw (grows n) (omega (arith, all, before.0, width)) in
-    (len, λ i h rest.
-    let cut : whole (suc n) ++ rest ≡ whole n ++ (element n ++ rest) = rw (grows n) (append_assoc (whole n) (element n) rest) in
-    let one : value_at (whole n ++ (element n ++ rest)) i ≡ element i = elim (cases_lt i n) [
-      | inl below ↦ before.1 i below (element n ++ rest)
-      | inr last ↦
-          let e : i ≡ n = omega arith in
-          rw e (value-at n (whole n) (element n) rest before.0 width)
-    ] in
-    ap (λ (x : List ℕ). value_at x i) cut ∙ one)
+    let len : length (whole (suc n)) ≡ 32 * suc n = rw (grows n) (omega (arith, all, before.0, width)) in (
+      len,
+      λ i h rest.
+          let cut : whole (suc n) ++ rest ≡ whole n ++ (element n ++ rest) = rw (grows n) (append_assoc (whole n) (element n) rest) in
+          let one : value_at (whole n ++ (element n ++ rest)) i ≡ element i = elim (cases_lt i n) [
+            | inl below ↦ before.1 i below (element n ++ rest)
+            | inr last ↦
+                let e : i ≡ n = omega arith in
+                rw e (value-at n (whole n) (element n) rest before.0 width)
+          ] in
+          ap (λ (x : List ℕ). value_at x i) cut ∙ one,
+    )
 
 led_ends-one : (place : KeyPlace) (q values : List ℕ) → length values ≡ 2144 → (i : ℕ) → i < 67
     → value_at (led_ends place q values 67 ++ []) i ≡ chained place i (steps_signed q i) (15 - steps_signed q i) (value_at values i)

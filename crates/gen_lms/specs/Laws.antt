@@ -15,7 +15,8 @@ use Rattle.gen_lms.specs.Signatures.{Verifies, number_in, one_time_in, root_over
 abbrev pub IsHash : List ℕ → Type 0
 IsHash bytes = (length bytes ≡ hash_length) × All (λ b. b < 256) bytes
 
--- Two one-time public keys that stand at one leaf under one root are one, or two texts of the tree have one hash.
+-- Two one-time public keys that stand at one leaf under one root are one, or two texts of the tree have one
+-- hash.
 abbrev pub LeafHasOneKey : Type 0
 LeafHasOneKey =
     (identifier : List ℕ) (height : LmsHeight) (q : ℕ) (key path other behind : List ℕ)
@@ -43,8 +44,8 @@ hash_signed identifier message signature =
     message_hash (record { identifier = identifier; number = number_in signature }) (randomizer_in signature)
     message
 
--- A signature verifies under the public key of a tree, and signs another hash than the one that the tree's holder signed
--- with this leaf. Then two texts of the tree have one hash, or the leaf's key is given away.
+-- A signature verifies under the public key of a tree, and signs another hash than the one that the tree's
+-- holder signed with this leaf. Then two texts of the tree have one hash, or the leaf's key is given away.
 abbrev pub ForgeryGivesAway : Type 0
 ForgeryGivesAway =
     (tree : TreeName) (message signature signed : List ℕ) → Verifies (public_key_of tree) message signature

@@ -57,8 +57,8 @@ tree_path tree q =
     path_over tree.identifier (tree_leaves tree) (leaves_of tree.height) (leaves_of tree.height + q)
     (levels_of tree.height)
 
--- u32str(q) || lmots_signature || u32str(type) || path[0] || .. || path[h-1]: the signature of a message with a
--- randomizer by the key of a leaf
+-- u32str(q) || lmots_signature || u32str(type) || path[0] || .. || path[h-1]: the signature of a message
+-- with a randomizer by the key of a leaf
 unfoldable pub tree_signature : LeafName → List ℕ → List ℕ → List ℕ
 tree_signature key randomizer message =
     u32str key.number

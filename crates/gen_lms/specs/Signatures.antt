@@ -10,8 +10,8 @@ use Rattle.gen_lms.specs.Heights.{levels_of, leaves_of, tree_code}
 use Rattle.gen_lms.specs.PublicKeys.{u32_of}
 use Rattle.gen_lms.specs.Tree.{leaf, led}
 
--- the number of bytes of a signature: the number of the leaf, the one-time signature, the type code of the tree, and
--- a hash for each level
+-- the number of bytes of a signature: the number of the leaf, the one-time signature, the type code of the
+-- tree, and a hash for each level
 abbrev pub signature_length : LmsHeight → ℕ
 signature_length height = 8 + ots_length + hash_length * levels_of height
 
@@ -52,7 +52,8 @@ root_over identifier height q key path =
 abbrev pub implied_root : List ℕ → LmsHeight → List ℕ → List ℕ → List ℕ
 implied_root identifier height message signature =
     root_over identifier height (number_in signature)
-    (candidate (record { identifier = identifier; number = number_in signature }) (one_time_in signature) message)
+    (candidate (record { identifier = identifier; number = number_in signature }) (one_time_in signature)
+    message)
     (path_in signature)
 
 -- a signature of a message verifies under a public key

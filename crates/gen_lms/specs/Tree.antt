@@ -21,8 +21,8 @@ abbrev pub inner : List ℕ → ℕ → List ℕ → List ℕ → List ℕ
 inner identifier r left right =
     sha256 (identifier ++ (u32str r ++ (u16str d_intr ++ (left ++ right))))
 
--- T[r], which stands this many levels above the leaves: the numbers of the leaves begin with their count, and the
--- nodes below r have the numbers 2r and 2r + 1
+-- T[r], which stands this many levels above the leaves: the numbers of the leaves begin with their count,
+-- and the nodes below r have the numbers 2r and 2r + 1
 unfoldable pub node_over : List ℕ → List (List ℕ) → ℕ → ℕ → ℕ → List ℕ
 node_over identifier leaves count zero r = slice_index_or leaves (r - count) []
 node_over identifier leaves count (suc level) r =

@@ -12,8 +12,8 @@ use gen_lmots::{OneTimeKey, append};
 use std::alloc::{AllocError, Global};
 use std::marker::Model;
 
-/// Room for one signature by a leaf of a tree of some height. It is all the memory that is needed to make one. A
-/// contract sees the height.
+/// Room for one signature by a leaf of a tree of some height. It is all the memory that is needed to make one.
+/// A contract sees the height.
 #[derive(Debug, Drop)]
 pub struct SignatureRoom {
     bytes: Vec<u8>,
@@ -67,11 +67,11 @@ impl SignatureRoom {
     }
 }
 
-/// The key of one leaf of a ring, which signs one message or is retired. A contract sees its tree and the number of its
-/// leaf.
+/// The key of one leaf of a ring, which signs one message or is retired. A contract sees its tree and the
+/// number of its leaf.
 ///
-/// It has no `Clone` and no `Drop`, so it can't be copied and has to be spent by `sign` or `retire`. Spending it can't
-/// fail. Its seed isn't wiped from memory.
+/// It has no `Clone` and no `Drop`, so it can't be copied and has to be spent by `sign` or `retire`. Spending
+/// it can't fail. Its seed isn't wiped from memory.
 pub struct LeafKey {
     pub(crate) key: OneTimeKey,
     pub(crate) height: LmsHeight,
@@ -115,9 +115,10 @@ impl LeafKey {
         self.key.number()
     }
 
-    /// Ends the key, and returns its signature of a message with a randomizer, which verifies under the public key of
-    /// the ring's tree. The randomizer has to be one that nobody could foresee when the message was chosen. The room
-    /// must be for the height of the tree. The call takes no memory beyond the room and can't fail.
+    /// Ends the key, and returns its signature of a message with a randomizer, which verifies under the public
+    /// key of the ring's tree. The randomizer has to be one that nobody could foresee when the message was
+    /// chosen. The room must be for the height of the tree. The call takes no memory beyond the room and can't
+    /// fail.
     pub fn sign(self, room: SignatureRoom, randomizer: &[u8; 32], message: &[u8]) -> Vec<u8>
         requires { room ≡ self.tree.height }
         ensures bytes { result.items ≡ tree_signature self randomizer.now message.now }

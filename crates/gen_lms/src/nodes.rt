@@ -41,9 +41,14 @@ fn inner(identifier: &[u8; 16], number: u32, left: &[u8], right: &[u8]) -> [u8; 
     hasher.finalize()
 }
 
-/// Returns the node with a number that stands this many levels above the leaves. The leaves must reach as far as the node
-/// does.
-pub fn node_at(identifier: &[u8; 16], leaves: &[[u8; 32]], level: u8, number: u32) -> [u8; HASH_BYTES]
+/// Returns the node with a number that stands this many levels above the leaves. The leaves must reach as far
+/// as the node does.
+pub fn node_at(
+    identifier: &[u8; 16],
+    leaves: &[[u8; 32]],
+    level: u8,
+    number: u32,
+) -> [u8; HASH_BYTES]
     requires few { length leaves.now ≤ 33_554_432 }
     requires first { length leaves.now ≤ number * 2 ^ level }
     requires last { (number + 1) * 2 ^ level ≤ 2 * length leaves.now }
@@ -69,7 +74,8 @@ fn beside(number: u32) -> u32
     }
 }
 
-/// Returns the path of the leaf with a number, in the first bytes of an array: 32 bytes for each level of the tree.
+/// Returns the path of the leaf with a number, in the first bytes of an array: 32 bytes for each level of the
+/// tree.
 pub fn path_of(
     identifier: &[u8; 16],
     leaves: &[[u8; 32]],
@@ -103,8 +109,8 @@ fn above(identifier: &[u8; 16], number: u32, value: &[u8], sibling: &[u8]) -> [u
     }
 }
 
-/// Returns the root over the one-time public key of the leaf with this number and its path. The tree must have the leaf,
-/// and the path 32 bytes for each level.
+/// Returns the root over the one-time public key of the leaf with this number and its path. The tree must have
+/// the leaf, and the path 32 bytes for each level.
 pub fn root_over(
     identifier: &[u8; 16],
     height: LmsHeight,
@@ -120,7 +126,12 @@ pub fn root_over(
     let mut node = leaf(identifier, number, key);
     'levels: for level in 0..height.levels() {
         let at = HASH_BYTES * usize::from(level);
-        node = above(identifier, number >> level, &node, &path[at..at + HASH_BYTES]);
+        node = above(
+            identifier,
+            number >> level,
+            &node,
+            &path[at..at + HASH_BYTES],
+        );
     }
     node
 }

@@ -8,11 +8,11 @@ use crate::public_keys::PublicKey;
 use crate::trees::KeyTree;
 use std::marker::Model;
 
-/// The one-time keys of a tree, which are given in the order of their leaves. A contract sees the tree, and the number
-/// of the leaf that is given next.
+/// The one-time keys of a tree, which are given in the order of their leaves. A contract sees the tree, and
+/// the number of the leaf that is given next.
 ///
-/// It has no `Clone` and no `Drop`, so it can't be copied and has to be ended by `close`. Its seed isn't wiped from
-/// memory.
+/// It has no `Clone` and no `Drop`, so it can't be copied and has to be ended by `close`. Its seed isn't wiped
+/// from memory.
 pub struct KeyRing {
     tree: KeyTree,
     next: u32,
@@ -33,8 +33,8 @@ impl Model for KeyRing {
 impl KeyRing {
     /// Returns the ring of a tree, of which no leaf is taken.
     ///
-    /// A second ring of the same tree gives each leaf again: whoever makes one has to see to it that no leaf signs two
-    /// messages.
+    /// A second ring of the same tree gives each leaf again: whoever makes one has to see to it that no leaf
+    /// signs two messages.
     pub fn open(tree: KeyTree) -> KeyRing
         ensures { result ≡ record { tree = tree; next = 0 } }
     {
@@ -48,8 +48,8 @@ impl KeyRing {
         self.tree.public_key()
     }
 
-    /// Takes the next leaf, and returns its key. Returns None if and only if every leaf was taken or passed over; then
-    /// the ring is unchanged.
+    /// Takes the next leaf, and returns its key. Returns None if and only if every leaf was taken or passed
+    /// over; then the ring is unchanged.
     pub fn take(&mut self) -> Option<LeafKey>
         ensures none { IsNone result ↔ (leaves_of self.old.tree.height ≤ self.old.next) }
         ensures unchanged { IfNone result (self.new ≡ self.old) }
@@ -66,8 +66,9 @@ impl KeyRing {
         Some(key)
     }
 
-    /// Passes over all leaves before this one, so that it is the next. Returns false if and only if it is behind the
-    /// last leaf and one more, or before the next one, which may be taken; then the ring is unchanged.
+    /// Passes over all leaves before this one, so that it is the next. Returns false if and only if it is
+    /// behind the last leaf and one more, or before the next one, which may be taken; then the ring is
+    /// unchanged.
     pub fn skip_to(&mut self, number: u32) -> bool
         ensures some { IsTrue result
             ↔ ((self.old.next ≤ number) × (number ≤ leaves_of self.old.tree.height)) }

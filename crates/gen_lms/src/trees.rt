@@ -1,7 +1,7 @@
 //! Trees of one-time keys that come from a seed.
 ghost use Rattle.std.specs.Prelude.{◌≡◌, ◌<◌, ◌+◌, IfOk};
 ghost use Rattle.gen_lms.specs.Heights.{leaves_of};
-ghost use Rattle.gen_lms.specs.Rings.{public_key_of};
+ghost use Rattle.gen_lms.specs.Rings.{public_key_of, tree_leaves};
 ghost use Rattle.gen_lms.specs.Tree.{leaf};
 ghost use Rattle.gen_lmots.specs.Keys.{public_key};
 
@@ -15,7 +15,8 @@ use std::marker::Model;
 
 /// The tree of keys of a seed: its leaves. A contract sees the identifier, the seed and the height.
 ///
-/// Making the tree takes nearly all the time of making a ring. The tree has the seed, which isn't wiped from memory.
+/// Making the tree takes nearly all the time of making a ring. The tree has the seed, which isn't wiped from
+/// memory.
 #[derive(Drop)]
 pub struct KeyTree {
     identifier: [u8; 16],
@@ -36,8 +37,9 @@ impl Model for KeyTree {
         ≡ tree_leaves (record { identifier = t.identifier; seed = t.seed; height = t.height }) };
 }
 
-// Returns the leaf of the key with this number.
-fn leaf_of(identifier: &[u8; 16], seed: &[u8; 32], height: LmsHeight, number: u32) -> [u8; 32]
+/// Returns the leaf with this number of the tree of a seed, over its one-time public key. Several workers may each make
+/// some leaves of one tree.
+pub fn leaf_of(identifier: &[u8; 16], seed: &[u8; 32], height: LmsHeight, number: u32) -> [u8; 32]
     requires { number < leaves_of height }
     ensures { result ≡ leaf identifier.now (leaves_of height + number)
         (public_key seed.now (record { identifier = identifier.now; number = number })) }
@@ -54,8 +56,8 @@ fn leaf_of(identifier: &[u8; 16], seed: &[u8; 32], height: LmsHeight, number: u3
 }
 
 impl KeyTree {
-    /// Returns the tree of a seed with this identifier and height. Its time and memory grow with the number of leaves:
-    /// a leaf takes about 1,050 compressions of SHA-256 and 32 bytes.
+    /// Returns the tree of a seed with this identifier and height. Its time and memory grow with the number of
+    /// leaves: a leaf takes 1,107 compressions of SHA-256 and 32 bytes.
     ///
     /// # Errors
     ///
@@ -74,12 +76,27 @@ impl KeyTree {
             let leaf = leaf_of(identifier, seed, height, number);
             leaves.extend_from_slice(&[leaf])?;
         }
-        Ok(KeyTree {
+        Ok(KeyTree::of_leaves(identifier, seed, height, leaves))
+    }
+
+    /// Returns the tree of a seed over its leaves, which `leaf_of` makes. All of them have to be given, in the order of
+    /// their numbers.
+    pub fn of_leaves(
+        identifier: &[u8; 16],
+        seed: &[u8; 32],
+        height: LmsHeight,
+        leaves: Vec<[u8; 32]>,
+    ) -> KeyTree
+        requires { leaves.items ≡ tree_leaves
+            (record { identifier = identifier.now; seed = seed.now; height = height }) }
+        ensures { result ≡ record { identifier = identifier.now; seed = seed.now; height = height } }
+    {
+        KeyTree {
             identifier: *identifier,
             seed: *seed,
             height,
             leaves,
-        })
+        }
     }
 
     /// Returns the height of the tree.
@@ -106,8 +123,8 @@ impl KeyTree {
         }
     }
 
-    // Returns the key of a leaf, with its path. This call may make the key of one leaf twice: the ring sees to it that
-    // none is given twice.
+    // Returns the key of a leaf, with its path. This call may make the key of one leaf twice: the ring sees to
+    // it that none is given twice.
     pub(crate) fn leaf_key(&self, number: u32) -> LeafKey
         requires { number < leaves_of self.now.height }
         ensures { result ≡ record { tree = self.now; number = number } }

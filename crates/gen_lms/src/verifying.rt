@@ -31,7 +31,13 @@ fn implied_root(key: &PublicKey, message: &[u8], signature: &[u8]) -> [u8; 32]
         number: u32_of(number),
     };
     let one_time_key = candidate(&place, one_time, message);
-    root_over(&key.identifier, key.height, place.number, &one_time_key, path)
+    root_over(
+        &key.identifier,
+        key.height,
+        place.number,
+        &one_time_key,
+        path,
+    )
 }
 
 /// Verifies a signature of a message under a public key.
