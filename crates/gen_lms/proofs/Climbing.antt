@@ -1,8 +1,8 @@
 -- Nodes, paths, and the roots to which paths lead.
-use Rattle.std.proofs.Common.{◌≡◌, ◌≤◌, ◌<◌, ◌==◌, ◌≢◌, inl, inr, ℕ, zero, suc, ◌+◌, ◌-◌, ◌*◌, ◌/◌, ◌%◌, ◌^◌, true, false, List, [], ◌∷◌, ◌++◌, length, take, drop, slice_index_or, refl, sym, ap, ◌∙◌, add-one, append_assoc, length-append, arith}
-use Rattle.std.proofs.lemmas.List.{take_at, drop_at, append-nil, get_or_push, get_or_append_left}
+use Rattle.std.proofs.Common.{◌≡◌, ◌≤◌, ◌<◌, ◌==◌, ◌≢◌, inl, inr, ℕ, zero, suc, ◌+◌, ◌-◌, ◌*◌, ◌/◌, ◌%◌, ◌^◌, true, false, List, [], ◌++◌, length, slice_index_or, refl, ap, ◌∙◌, add-one, append_assoc, length-append, arith}
+use Rattle.std.proofs.lemmas.List.{take_at, drop_at}
 use Rattle.std.proofs.Math.Nat.{pow-suc, div-div-eq-div-mul, div-one}
-use Rattle.std.proofs.lemmas.Bool.Decides.{eqb_tells, nat_tests}
+use Rattle.std.proofs.lemmas.Bool.Decides.{eqb_tells}
 use Rattle.sha2.proofs.Facts256.{length-sha256}
 use Rattle.gen_lmots.specs.Strings.{hash_length}
 use Rattle.gen_lms.specs.Tree.{above, beside, inner, led, node_over, path_at, path_over}

@@ -1,6 +1,5 @@
 -- The leaves of a tree of a seed, and the roots to which their signatures lead.
 use Rattle.std.proofs.Common.{◌≡◌, ◌≤◌, ◌<◌, inl, inr, ℕ, zero, suc, ◌+◌, ◌-◌, ◌*◌, ◌/◌, ◌^◌, List, [], ◌∷◌, ◌++◌, length, take, drop, slice_index_or, refl, sym, ap, ◌∙◌, append_assoc, length-append, arith}
-use Rattle.std.specs.Int.{w32, from_be_bytes}
 use Rattle.std.proofs.lemmas.Bool.Decides.{eqb_tells}
 use Rattle.std.proofs.lemmas.List.{take_at, drop_at, append-nil, get_or_push, get_or_append_left}
 use Rattle.std.proofs.lemmas.Nat.{div-mul-add, from_be_bytes-to_be_bytes_4}
@@ -16,8 +15,8 @@ use Rattle.gen_lms.specs.declared.heights.LmsHeight.TheVariants.{Five, Ten, Fift
 use Rattle.gen_lms.specs.Heights.{levels_of, leaves_of, tree_code}
 use Rattle.gen_lms.specs.PublicKeys.{u32_of}
 use Rattle.gen_lms.specs.Rings.{LeafName, TreeName, leaves_up_to, place_of, public_key_of, tree_leaves, tree_path, tree_root, tree_signature}
-use Rattle.gen_lms.specs.Signatures.{Verifies, behind_one_time, implied_root, number_in, one_time_code_in, one_time_in, path_in, root_over, signature_length, tree_code_in}
-use Rattle.gen_lms.specs.Tree.{leaf, led, node_over, path_over}
+use Rattle.gen_lms.specs.Signatures.{Verifies, behind_one_time, implied_root, number_in, one_time_in, path_in, root_over}
+use Rattle.gen_lms.specs.Tree.{leaf, led, node_over}
 use Rattle.gen_lms.proofs.Climbing.{AreLeaves, led-path, length-path_over}
 use Rattle.gen_lms.proofs.Numbers.{even_leaves, few_leaves, half_of}
 

@@ -1,3 +1,4 @@
+pub mod Arrayed
 pub mod Climbing
 pub mod Digits
 pub mod Hashes

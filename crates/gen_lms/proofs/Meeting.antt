@@ -1,12 +1,11 @@
 -- Chains that meet, and the values of one chain among those of all.
-use Rattle.std.proofs.Common.{bytes_eq, ◌≡◌, ◌≢◌, ◌≤◌, ◌<◌, ◌⊎◌, inl, inr, ℕ, zero, suc, ◌+◌, ◌-◌, ◌*◌, Bool, true, false, List, [], ◌∷◌, ◌++◌, length, slice_index, take, drop, refl, sym, ap, ◌∙◌, append_assoc, length-append, arith}
+use Rattle.std.proofs.Common.{bytes_eq, ◌≡◌, ◌≢◌, ◌≤◌, ◌<◌, ◌⊎◌, inl, inr, ℕ, zero, suc, ◌+◌, ◌-◌, ◌*◌, Bool, true, false, List, [], ◌++◌, length, slice_index, drop, refl, sym, ap, ◌∙◌, append_assoc, length-append, arith}
 use Rattle.std.proofs.lemmas.Bool.{cases_lt}
 use Rattle.std.proofs.lemmas.Bool.Decides.{not_from_Decides}
 use Rattle.std.proofs.lemmas.List.{take_at, drop_at, append_cancel_left, length-drop, length-take-le}
 use Rattle.std.proofs.lemmas.Slice.Eq.{bytes_eq-Decides}
 use Rattle.sha2.specs.Sha256.{sha256}
 use Rattle.sha2.proofs.Facts256.{length-sha256}
-use Rattle.gen_ots.specs.Colliding.{AreColliding}
 use Rattle.gen_lmots.specs.declared.places.KeyPlace.{KeyPlace}
 use Rattle.gen_lmots.specs.Chains.{chained}
 use Rattle.gen_lmots.specs.Coefficients.{steps_signed}
@@ -14,7 +13,7 @@ use Rattle.gen_lmots.specs.Keys.{ends, public_key, secret}
 use Rattle.gen_lmots.specs.Signatures.{key_led, led_ends, value_at}
 use Rattle.gen_lmots.specs.Strings.{d_pblc, front, u8str, u16str}
 use Rattle.gen_lmots.proofs.Walked.{chained-suc, chained-sum, chained-zero, coefficient-le, ends-suc, led_ends-suc, led_ends-zero, ends-zero, length-chained}
-use Rattle.gen_lms.specs.Forging.{GivesAway, IsBefore, StepsCollide, key_text, step_text}
+use Rattle.gen_lms.specs.Forging.{GivesAway, StepsCollide, key_text, step_text}
 use Rattle.gen_lms.proofs.Digits.{fewer_somewhere}
 
 -- lists of numbers are equal or not

@@ -1,11 +1,11 @@
 -- The numbers of nodes: leaves, the nodes above them, and the one beside another.
-use Rattle.std.proofs.Common.{◌≡◌, ◌≤◌, ◌<◌, ◌==◌, ◌≢◌, ℕ, zero, suc, ◌+◌, ◌-◌, ◌*◌, ◌/◌, ◌%◌, ◌^◌, true, false, refl, sym, ap, ◌∙◌, arith}
+use Rattle.std.proofs.Common.{◌≡◌, ◌≤◌, ◌<◌, ◌≢◌, ℕ, zero, suc, ◌+◌, ◌-◌, ◌*◌, ◌/◌, ◌%◌, ◌^◌, refl, arith}
 use Rattle.std.proofs.Math.Nat.{pow-suc, mul_comm, mul-le-mul_right, div-lt_iff_lt-mul, le-div_iff_mul-le}
 use Rattle.std.proofs.lemmas.Nat.{pow-add, pow_pos}
 use Rattle.std.proofs.lemmas.Bool.Decides.{nat_tests}
 use Rattle.gen_lms.specs.declared.heights.LmsHeight.{LmsHeight}
 use Rattle.gen_lms.specs.declared.heights.LmsHeight.TheVariants.{Five, Ten, Fifteen, Twenty, TwentyFive}
-use Rattle.gen_lms.specs.Heights.{levels_of, leaves_of, tree_code}
+use Rattle.gen_lms.specs.Heights.{levels_of, leaves_of}
 use Rattle.gen_lms.specs.Tree.{beside}
 
 pub few_leaves : (height : LmsHeight) → leaves_of height ≤ 33554432

@@ -1,17 +1,14 @@
 -- What a signature tells that its holder did not make.
-use Rattle.std.proofs.Common.{◌≡◌, ◌≢◌, ◌<◌, ◌⊎◌, inl, inr, ℕ, ◌+◌, ◌-◌, ◌*◌, List, length, take, drop, sym, ap, ◌∙◌, arith}
+use Rattle.std.proofs.Common.{◌≡◌, ◌<◌, inl, inr, ℕ, ◌+◌, ◌-◌, ◌*◌, List, length, drop, sym, ◌∙◌, arith}
 use Rattle.std.proofs.lemmas.List.{length-drop, length-take-le}
 use Rattle.sha2.proofs.Facts256.{length-sha256}
-use Rattle.gen_lmots.specs.declared.places.KeyPlace.{KeyPlace}
 use Rattle.gen_lmots.specs.Keys.{public_key}
 use Rattle.gen_lmots.specs.Signatures.{candidate, key_led}
 use Rattle.gen_lmots.specs.Strings.{hash_length, ots_length}
-use Rattle.gen_lms.specs.declared.heights.LmsHeight.{LmsHeight}
-use Rattle.gen_lms.specs.Forging.{GivesAway, NodesCollide}
 use Rattle.gen_lms.specs.Heights.{leaves_of, levels_of}
-use Rattle.gen_lms.specs.Laws.{ForgeryGivesAway, IsHash, LeafHasOneKey, OtherHashGivesAway, hash_signed, values_in}
-use Rattle.gen_lms.specs.Rings.{TreeName, place_of, public_key_of, tree_path}
-use Rattle.gen_lms.specs.Signatures.{Verifies, number_in, one_time_in, path_in}
+use Rattle.gen_lms.specs.Laws.{ForgeryGivesAway, LeafHasOneKey, OtherHashGivesAway, hash_signed, values_in}
+use Rattle.gen_lms.specs.Rings.{place_of, tree_path}
+use Rattle.gen_lms.specs.Signatures.{number_in, one_time_in, path_in}
 use Rattle.gen_lms.specs.Tree.{leaf, path_at}
 use Rattle.gen_lms.proofs.Hashes.{each_byte, hash_bytes}
 use Rattle.gen_lms.proofs.Joining.{leaves_meet, paths_meet}

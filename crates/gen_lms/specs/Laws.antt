@@ -7,7 +7,7 @@ use Rattle.gen_lmots.specs.Signatures.{key_led}
 use Rattle.gen_lmots.specs.Strings.{chain_count, hash_length}
 use Rattle.gen_lms.specs.declared.heights.LmsHeight.{LmsHeight}
 use Rattle.gen_lms.specs.Forging.{GivesAway, NodesCollide}
-use Rattle.gen_lms.specs.Heights.{leaves_of, levels_of}
+use Rattle.gen_lms.specs.Heights.{levels_of}
 use Rattle.gen_lms.specs.Rings.{TreeName, place_of, public_key_of}
 use Rattle.gen_lms.specs.Signatures.{Verifies, number_in, one_time_in, root_over}
 

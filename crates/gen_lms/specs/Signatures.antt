@@ -1,5 +1,5 @@
 -- Signatures (RFC 8554, section 5.4), and when one verifies (section 5.4.2, algorithms 6 and 6a).
-use Rattle.std.specs.Prelude.{ℕ, ◌≡◌, ◌≢◌, ◌<◌, ◌≤◌, ◌+◌, ◌*◌, List, ◌++◌, length, take, drop}
+use Rattle.std.specs.Prelude.{ℕ, ◌≡◌, ◌≢◌, ◌<◌, ◌≤◌, ◌+◌, ◌*◌, List, length, take, drop}
 use Rattle.gen_lmots.specs.Signatures.{candidate}
 use Rattle.gen_lmots.specs.Strings.{hash_length, ots_length, type_code}
 use Rattle.gen_lms.specs.declared.heights.LmsHeight.{LmsHeight}

@@ -1,14 +1,15 @@
 //! The nodes of a tree (RFC 8554, section 5.3), and what a path leads to (section 5.4.2).
-ghost use Rattle.std.specs.Prelude.{◌≡◌, ◌≤◌, ◌<◌, ◌+◌, ◌*◌, ◌^◌, length, take};
+ghost use Rattle.std.specs.Prelude.{◌≡◌, ◌≤◌, ◌<◌, ◌+◌, ◌*◌, ◌^◌, ℕ, List, IfOk, length, take};
 ghost use Rattle.gen_lmots.specs.Strings.{hash_length};
 ghost use Rattle.gen_lms.specs.Heights.{levels_of, leaves_of};
 ghost use Rattle.gen_lms.specs.Signatures.{root_over};
-ghost use Rattle.gen_lms.specs.Tree.{above, beside, inner, leaf, node_over, path_over};
+ghost use Rattle.gen_lms.specs.Tree.{AreInner, above, beside, inner, leaf, node_over, path_over};
 
 use crate::heights::LmsHeight;
 use crate::sizes::{MOST_LEVELS, MOST_PATH_BYTES};
 use gen_lmots::sizes::HASH_BYTES;
 use sha2::{Digest, Sha256};
+use std::alloc::{AllocError, Global};
 
 /// Stands before a one-time public key, in the text whose hash is a leaf: D_LEAF.
 const LEAF: u16 = 0x8282;
@@ -41,25 +42,45 @@ fn inner(identifier: &[u8; 16], number: u32, left: &[u8], right: &[u8]) -> [u8; 
     hasher.finalize()
 }
 
-/// Returns the node with a number that stands this many levels above the leaves. The leaves must reach as far
-/// as the node does.
-pub fn node_at(
+/// Returns the node with a number: a leaf, or one that stands in the array of the nodes above the leaves.
+pub fn node_of(leaves: &[[u8; 32]], nodes: &[[u8; 32]], number: usize) -> [u8; HASH_BYTES]
+    requires stands { length leaves.now ≤ number + length nodes.now }
+    requires inside { number < 2 * length leaves.now }
+    ensures { (identifier : List ℕ) → (level : ℕ) → AreInner identifier leaves.now nodes.now
+        → length leaves.now ≤ number * 2 ^ level → (number + 1) * 2 ^ level ≤ 2 * length leaves.now
+        → result ≡ node_over identifier leaves.now (length leaves.now) level number }
+{
+    if number >= leaves.len() {
+        leaves[number - leaves.len()]
+    } else {
+        nodes[leaves.len() - 1 - number]
+    }
+}
+
+/// Returns the nodes above these leaves, from the one with the greatest number down to the root.
+///
+/// # Errors
+///
+/// `AllocError` if memory is refused.
+pub fn nodes_above(
+    alloc: Global,
     identifier: &[u8; 16],
     leaves: &[[u8; 32]],
-    level: u8,
-    number: u32,
-) -> [u8; HASH_BYTES]
+) -> Result<Vec<[u8; 32]>, AllocError>
+    requires some { 0 < length leaves.now }
     requires few { length leaves.now ≤ 33_554_432 }
-    requires first { length leaves.now ≤ number * 2 ^ level }
-    requires last { (number + 1) * 2 ^ level ≤ 2 * length leaves.now }
-    ensures { result ≡ node_over identifier.now leaves.now (length leaves.now) level number }
+    ensures count { IfOk result (λ nodes. length nodes.items + 1 ≡ length leaves.now) }
+    ensures nodes { IfOk result (λ nodes. AreInner identifier.now leaves.now nodes.items) }
 {
-    if level == 0 {
-        return leaves[number as usize - leaves.len()];
+    let mut nodes = Vec::with_capacity(alloc, leaves.len())?;
+    'nodes: for done in 1..leaves.len() {
+        let number = leaves.len() - done;
+        let left = node_of(leaves, nodes.as_slice(), 2 * number);
+        let right = node_of(leaves, nodes.as_slice(), 2 * number + 1);
+        let node = inner(identifier, number as u32, &left, &right);
+        nodes.extend_from_slice(&[node])?;
     }
-    let left = node_at(identifier, leaves, level - 1, 2 * number);
-    let right = node_at(identifier, leaves, level - 1, 2 * number + 1);
-    inner(identifier, number, &left, &right)
+    Ok(nodes)
 }
 
 // Returns the number of the other node below the same node.
@@ -74,24 +95,26 @@ fn beside(number: u32) -> u32
     }
 }
 
-/// Returns the path of the leaf with a number, in the first bytes of an array: 32 bytes for each level of the
-/// tree.
+/// Returns the path of the leaf with a number, in the first bytes of an array: 32 bytes for each level of the tree. The
+/// nodes above the leaves have to stand in their array.
 pub fn path_of(
-    identifier: &[u8; 16],
     leaves: &[[u8; 32]],
+    nodes: &[[u8; 32]],
     height: LmsHeight,
     number: u32,
 ) -> [u8; MOST_PATH_BYTES]
     requires count { length leaves.now ≡ leaves_of height }
+    requires nodes { length nodes.now + 1 ≡ length leaves.now }
     requires first { leaves_of height ≤ number }
     requires last { number < 2 * leaves_of height }
-    ensures { take (hash_length * levels_of height) result
-        ≡ path_over identifier.now leaves.now (leaves_of height) number (levels_of height) }
+    ensures { (identifier : List ℕ) → AreInner identifier leaves.now nodes.now
+        → take (hash_length * levels_of height) result
+        ≡ path_over identifier leaves.now (leaves_of height) number (levels_of height) }
 {
     let mut path = [0u8; MOST_PATH_BYTES];
     'levels: for level in 0..height.levels() {
         let other = beside(number >> level);
-        let node = node_at(identifier, leaves, level, other);
+        let node = node_of(leaves, nodes, other as usize);
         let at = HASH_BYTES * usize::from(level);
         path[at..at + HASH_BYTES].copy_from_slice(&node);
     }

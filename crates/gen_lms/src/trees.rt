@@ -7,13 +7,13 @@ ghost use Rattle.gen_lmots.specs.Keys.{public_key};
 
 use crate::heights::LmsHeight;
 use crate::leaf_keys::LeafKey;
-use crate::nodes::{leaf, node_at, path_of};
+use crate::nodes::{leaf, node_of, nodes_above, path_of};
 use crate::public_keys::PublicKey;
 use gen_lmots::{KeyPlace, OneTimeKey, public_key};
 use std::alloc::{AllocError, Global};
 use std::marker::Model;
 
-/// The tree of keys of a seed: its leaves. A contract sees the identifier, the seed and the height.
+/// The tree of keys of a seed: its leaves, and the nodes above them. A contract sees the identifier, the seed and the height.
 ///
 /// Making the tree takes nearly all the time of making a ring. The tree has the seed, which isn't wiped from
 /// memory.
@@ -23,18 +23,23 @@ pub struct KeyTree {
     seed: [u8; 32],
     height: LmsHeight,
     leaves: Vec<[u8; 32]>,
+    // The nodes above the leaves, from the one with the greatest number down to the root.
+    nodes: Vec<[u8; 32]>,
 }
 
 impl Model for KeyTree {
-    ghost use Rattle.std.specs.Prelude.{◌≡◌};
+    ghost use Rattle.std.specs.Prelude.{◌≡◌, ◌+◌, length};
     ghost use Rattle.gen_lms.specs.Rings.{TreeName, tree_leaves};
+    ghost use Rattle.gen_lms.specs.Tree.{AreInner};
 
     ghost Value = { TreeName };
 
     ghost view = { λ t. record { identifier = t.identifier; seed = t.seed; height = t.height } };
 
-    ghost invariant = { λ t. t.leaves.items
-        ≡ tree_leaves (record { identifier = t.identifier; seed = t.seed; height = t.height }) };
+    ghost invariant = { λ t. (t.leaves.items
+        ≡ tree_leaves (record { identifier = t.identifier; seed = t.seed; height = t.height }))
+        × (length t.nodes.items + 1 ≡ length t.leaves.items)
+        × AreInner t.identifier t.leaves.items t.nodes.items };
 }
 
 /// Returns the leaf with this number of the tree of a seed, over its one-time public key. Several workers may each make
@@ -57,7 +62,7 @@ pub fn leaf_of(identifier: &[u8; 16], seed: &[u8; 32], height: LmsHeight, number
 
 impl KeyTree {
     /// Returns the tree of a seed with this identifier and height. Its time and memory grow with the number of
-    /// leaves: a leaf takes 1,107 compressions of SHA-256 and 32 bytes.
+    /// leaves: a leaf takes 1,109 compressions of SHA-256 and 64 bytes.
     ///
     /// # Errors
     ///
@@ -76,27 +81,35 @@ impl KeyTree {
             let leaf = leaf_of(identifier, seed, height, number);
             leaves.extend_from_slice(&[leaf])?;
         }
-        Ok(KeyTree::of_leaves(identifier, seed, height, leaves))
+        KeyTree::of_leaves(alloc, identifier, seed, height, leaves)
     }
 
     /// Returns the tree of a seed over its leaves, which `leaf_of` makes. All of them have to be given, in the order of
     /// their numbers.
+    ///
+    /// # Errors
+    ///
+    /// `AllocError` if memory is refused. The leaves are lost then.
     pub fn of_leaves(
+        alloc: Global,
         identifier: &[u8; 16],
         seed: &[u8; 32],
         height: LmsHeight,
         leaves: Vec<[u8; 32]>,
-    ) -> KeyTree
+    ) -> Result<KeyTree, AllocError>
         requires { leaves.items ≡ tree_leaves
             (record { identifier = identifier.now; seed = seed.now; height = height }) }
-        ensures { result ≡ record { identifier = identifier.now; seed = seed.now; height = height } }
+        ensures { IfOk result (λ tree. tree
+            ≡ record { identifier = identifier.now; seed = seed.now; height = height }) }
     {
-        KeyTree {
+        let nodes = nodes_above(alloc, identifier, leaves.as_slice())?;
+        Ok(KeyTree {
             identifier: *identifier,
             seed: *seed,
             height,
             leaves,
-        }
+            nodes,
+        })
     }
 
     /// Returns the height of the tree.
@@ -110,12 +123,7 @@ impl KeyTree {
     pub fn public_key(&self) -> PublicKey
         ensures { result ≡ public_key_of self.now }
     {
-        let root = node_at(
-            &self.identifier,
-            self.leaves.as_slice(),
-            self.height.levels(),
-            1,
-        );
+        let root = node_of(self.leaves.as_slice(), self.nodes.as_slice(), 1);
         PublicKey {
             height: self.height,
             identifier: self.identifier,
@@ -134,8 +142,8 @@ impl KeyTree {
             number,
         };
         let path = path_of(
-            &self.identifier,
             self.leaves.as_slice(),
+            self.nodes.as_slice(),
             self.height,
             self.height.leaves() + number,
         );

@@ -1,4 +1,4 @@
-use Rattle.std.proofs.Common.{◌≡◌, ◌+◌, ◌-◌, ◌++◌, List, ℕ, take, suc, sym, ap, ◌∙◌, append_assoc, arith}
+use Rattle.std.proofs.Common.{◌≡◌, ◌+◌, ◌-◌, ◌++◌, List, ℕ, suc, sym, ap, ◌∙◌, append_assoc, arith}
 use Rattle.sha2.specs.Sha256.{sha256}
 use Rattle.gen_lmots.specs.Chains.{chain_step}
 use Rattle.gen_lmots.specs.Strings.{front, u8str, u16str}

@@ -1,4 +1,4 @@
-use Rattle.std.proofs.Common.{◌≡◌, ◌++◌, List, ℕ, [], ap, ◌∙◌}
+use Rattle.std.proofs.Common.{◌++◌, List, ℕ, [], ap, ◌∙◌}
 use Rattle.sha2.specs.Sha256.{sha256}
 use Rattle.gen_lmots.specs.Strings.{u16str, u32str}
 use Rattle.gen_lms.specs.Tree.{d_intr}

@@ -1,4 +1,4 @@
-use Rattle.std.proofs.Common.{rules, ◌≡◌, ◌≢◌, length, take, drop, sym, ap, ◌∙◌}
+use Rattle.std.proofs.Common.{rules, ◌≡◌, ◌≢◌, take, drop, sym, ap, ◌∙◌}
 use Rattle.gen_lms.specs.PublicKeys.{u32_of}
 use Rattle.gen_lms.specs.Signatures.{IsRefused, number_in, one_time_code_in, tree_code_in}
 use Rattle.gen_lms.proofs.verifying.verify.Goals as goal
