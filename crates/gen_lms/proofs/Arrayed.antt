@@ -2,7 +2,8 @@
 use Rattle.std.proofs.Common.{◌≡◌, ◌≤◌, ◌<◌, inl, inr, ℕ, zero, suc, ◌+◌, ◌-◌, ◌*◌, ◌^◌, List, [], ◌∷◌, ◌++◌, length, slice_index_or, length-append, refl, ap, ◌∙◌, arith}
 use Rattle.std.proofs.lemmas.Bool.Decides.{eqb_tells}
 use Rattle.std.proofs.lemmas.List.{get_or_push, get_or_append_left}
-use Rattle.gen_lms.specs.Tree.{AreInner, inner, node_over}
+use Rattle.gen_lms.specs.Loops.Nodes.{AreInner}
+use Rattle.gen_lms.specs.Tree.{inner, node_over}
 use Rattle.gen_lms.proofs.Numbers.{child-first, child-last, number-room}
 
 -- a node whose number is a leaf's is the leaf

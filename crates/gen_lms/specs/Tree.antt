@@ -1,6 +1,6 @@
 -- The tree over one-time public keys (RFC 8554, section 5.3), and what a path leads to (section 5.4.2).
 use Rattle.std.specs.Prelude.{ℕ, zero, suc, if◌then◌else◌, List, [], ◌++◌, take, drop, slice_index_or}
-use Rattle.std.specs.Prelude.{◌+◌, ◌-◌, ◌*◌, ◌/◌, ◌%◌, ◌^◌, ◌==◌, ◌≡◌, ◌<◌, ◌≤◌, length}
+use Rattle.std.specs.Prelude.{◌+◌, ◌-◌, ◌*◌, ◌/◌, ◌%◌, ◌^◌, ◌==◌}
 use Rattle.sha2.specs.Sha256.{sha256}
 use Rattle.gen_lmots.specs.Strings.{hash_length, u16str, u32str}
 
@@ -54,13 +54,3 @@ unfoldable pub led : List ℕ → ℕ → List ℕ → List ℕ → ℕ → List
 led identifier r value path zero = value
 led identifier r value path (suc n) =
     above identifier (r / 2 ^ n) (led identifier r value path n) (path_at path n)
-
--- The nodes above the leaves, or some of them with the greatest numbers, stand in an array, from the
--- greatest number down: the node with the number r is that many levels above the leaves as its place in the
--- tree says.
-unfoldable pub AreInner : List ℕ → List (List ℕ) → List (List ℕ) → Type 0
-AreInner identifier leaves nodes =
-    (level r : ℕ) → 0 < level → length leaves ≤ r * 2 ^ level → (r + 1) * 2 ^ level ≤ 2 * length leaves
-    → length leaves ≤ r + length nodes
-    → slice_index_or nodes (length leaves - 1 - r) []
-    ≡ node_over identifier leaves (length leaves) level r

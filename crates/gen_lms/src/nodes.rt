@@ -3,10 +3,11 @@ ghost use Rattle.std.specs.Prelude.{◌≡◌, ◌≤◌, ◌<◌, ◌+◌, ◌*
 ghost use Rattle.gen_lmots.specs.Strings.{hash_length};
 ghost use Rattle.gen_lms.specs.Heights.{levels_of, leaves_of};
 ghost use Rattle.gen_lms.specs.Signatures.{root_over};
-ghost use Rattle.gen_lms.specs.Tree.{AreInner, above, beside, inner, leaf, node_over, path_over};
+ghost use Rattle.gen_lms.specs.Loops.Nodes.{AreInner};
+ghost use Rattle.gen_lms.specs.Tree.{above, beside, inner, leaf, node_over, path_over};
 
 use crate::heights::LmsHeight;
-use crate::sizes::{MOST_LEVELS, MOST_PATH_BYTES};
+use crate::sizes::MOST_PATH_BYTES;
 use gen_lmots::sizes::HASH_BYTES;
 use sha2::{Digest, Sha256};
 use std::alloc::{AllocError, Global};
@@ -95,8 +96,8 @@ fn beside(number: u32) -> u32
     }
 }
 
-/// Returns the path of the leaf with a number, in the first bytes of an array: 32 bytes for each level of the tree. The
-/// nodes above the leaves have to stand in their array.
+/// Returns the path of the leaf with a number, in the first bytes of an array: 32 bytes for each level of the
+/// tree. The nodes above the leaves have to stand in their array.
 pub fn path_of(
     leaves: &[[u8; 32]],
     nodes: &[[u8; 32]],

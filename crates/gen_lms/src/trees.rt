@@ -13,7 +13,8 @@ use gen_lmots::{KeyPlace, OneTimeKey, public_key};
 use std::alloc::{AllocError, Global};
 use std::marker::Model;
 
-/// The tree of keys of a seed: its leaves, and the nodes above them. A contract sees the identifier, the seed and the height.
+/// The tree of keys of a seed: its leaves, and the nodes above them. A contract sees the identifier, the seed
+/// and the height.
 ///
 /// Making the tree takes nearly all the time of making a ring. The tree has the seed, which isn't wiped from
 /// memory.
@@ -30,7 +31,7 @@ pub struct KeyTree {
 impl Model for KeyTree {
     ghost use Rattle.std.specs.Prelude.{◌≡◌, ◌+◌, length};
     ghost use Rattle.gen_lms.specs.Rings.{TreeName, tree_leaves};
-    ghost use Rattle.gen_lms.specs.Tree.{AreInner};
+    ghost use Rattle.gen_lms.specs.Loops.Nodes.{AreInner};
 
     ghost Value = { TreeName };
 
@@ -42,8 +43,8 @@ impl Model for KeyTree {
         × AreInner t.identifier t.leaves.items t.nodes.items };
 }
 
-/// Returns the leaf with this number of the tree of a seed, over its one-time public key. Several workers may each make
-/// some leaves of one tree.
+/// Returns the leaf with this number of the tree of a seed, over its one-time public key. Several workers may
+/// each make some leaves of one tree.
 pub fn leaf_of(identifier: &[u8; 16], seed: &[u8; 32], height: LmsHeight, number: u32) -> [u8; 32]
     requires { number < leaves_of height }
     ensures { result ≡ leaf identifier.now (leaves_of height + number)
@@ -84,8 +85,8 @@ impl KeyTree {
         KeyTree::of_leaves(alloc, identifier, seed, height, leaves)
     }
 
-    /// Returns the tree of a seed over its leaves, which `leaf_of` makes. All of them have to be given, in the order of
-    /// their numbers.
+    /// Returns the tree of a seed over its leaves, which `leaf_of` makes. All of them have to be given, in the
+    /// order of their numbers.
     ///
     /// # Errors
     ///

@@ -1,5 +1,5 @@
 use Rattle.std.proofs.Common.{◌≡◌, ◌+◌, ◌-◌, ◌++◌, [], ◌∷◌, length, length-append, ap, arith}
-use Rattle.gen_lms.specs.Tree.{AreInner}
+use Rattle.gen_lms.specs.Loops.Nodes.{AreInner}
 use Rattle.gen_lms.proofs.Arrayed.{none_inner, one_more}
 use Rattle.gen_lms.proofs.nodes.nodes_above.Goals as goal
 

@@ -1,5 +1,5 @@
 use Rattle.std.proofs.Common.{◌≡◌, ◌+◌, length}
-use Rattle.gen_lms.specs.Tree.{AreInner}
+use Rattle.gen_lms.specs.Loops.Nodes.{AreInner}
 use Rattle.gen_lms.proofs.nodes.nodes_above.Given as goal
 
 abbrev pub invariant-nodes : goal.invariant-nodes

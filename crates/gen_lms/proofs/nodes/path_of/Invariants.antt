@@ -1,7 +1,8 @@
 use Rattle.std.proofs.Common.{◌≡◌, ◌*◌, List, ℕ, take, length}
 use Rattle.gen_lmots.specs.Strings.{hash_length}
 use Rattle.gen_lms.specs.Heights.{leaves_of}
-use Rattle.gen_lms.specs.Tree.{AreInner, path_over}
+use Rattle.gen_lms.specs.Loops.Nodes.{AreInner}
+use Rattle.gen_lms.specs.Tree.{path_over}
 use Rattle.gen_lms.proofs.nodes.path_of.Given as goal
 
 abbrev pub invariant-levels : goal.invariant-levels

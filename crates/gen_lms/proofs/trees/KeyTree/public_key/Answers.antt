@@ -1,7 +1,7 @@
 use Rattle.std.proofs.Common.{◌≡◌, ◌≤◌, ◌+◌, ◌*◌, ◌^◌, ◌∙◌, List, ℕ, ap, arith, length}
 use Rattle.gen_lms.specs.Heights.{leaves_of, levels_of}
 use Rattle.gen_lms.specs.Rings.{TreeName, tree_leaves, tree_root}
-use Rattle.gen_lms.specs.Tree.{AreInner}
+use Rattle.gen_lms.specs.Loops.Nodes.{AreInner}
 use Rattle.gen_lms.specs.declared.public_keys.PublicKey.{PublicKey}
 use Rattle.gen_lms.proofs.Leading.{length-leaves_up_to}
 use Rattle.gen_lms.proofs.trees.KeyTree.public_key.Goals as goal
