@@ -16,8 +16,8 @@ lacking s (suc n) = lacking s n + (chain_steps - coefficient s n)
 
 -- Cksm(Q): the checksum of a hash
 abbrev pub checksum : List ℕ → ℕ
-checksum q = lacking q hash_coefficients * 2 ^ checksum_shift
+checksum hash = lacking hash hash_coefficients * 2 ^ checksum_shift
 
 -- coef(Q || Cksm(Q), i, w): how many steps the signature of a hash takes in chain i
 abbrev pub steps_signed : List ℕ → ℕ → ℕ
-steps_signed q i = coefficient (q ++ u16str (checksum q)) i
+steps_signed hash i = coefficient (hash ++ u16str (checksum hash)) i

@@ -9,9 +9,9 @@ use Rattle.gen_lmots.specs.Strings.{chain_count, chain_steps, hash_length, type_
 -- what a signature of a hash shows of the first n chains of a key: in each chain the value that stands as
 -- many steps from the start as the coefficient says
 unfoldable pub shown : List ℕ → KeyPlace → List ℕ → ℕ → List ℕ
-shown seed place q zero = []
-shown seed place q (suc n) =
-    shown seed place q n ++ chained place n 0 (steps_signed q n) (secret seed place n)
+shown seed place hash zero = []
+shown seed place hash (suc n) =
+    shown seed place hash n ++ chained place n 0 (steps_signed hash n) (secret seed place n)
 
 -- u32str(type) || C || y[0] || .. || y[p-1]: the signature of a message with a randomizer C (algorithm 3)
 unfoldable pub signature_of : List ℕ → KeyPlace → List ℕ → List ℕ → List ℕ
@@ -23,16 +23,16 @@ signature_of seed place randomizer message =
 abbrev pub value_at : List ℕ → ℕ → List ℕ
 value_at values i = take hash_length (drop (hash_length * i) values)
 
--- the ends of the first n chains to which a signature of the hash q leads, one after another
+-- the ends of the first n chains to which a signature of a hash leads, one after another
 unfoldable pub led_ends : KeyPlace → List ℕ → List ℕ → ℕ → List ℕ
-led_ends place q values zero = []
-led_ends place q values (suc n) =
-    led_ends place q values n
-    ++ chained place n (steps_signed q n) (chain_steps - steps_signed q n) (value_at values n)
+led_ends place hash values zero = []
+led_ends place hash values (suc n) =
+    led_ends place hash values n
+    ++ chained place n (steps_signed hash n) (chain_steps - steps_signed hash n) (value_at values n)
 
--- Kc: the public key that the values of a signature of the hash q stand for
+-- Kc: the public key that the values of a signature of a hash stand for
 unfoldable pub key_led : KeyPlace → List ℕ → List ℕ → List ℕ
-key_led place q values = key_over place (led_ends place q values chain_count)
+key_led place hash values = key_over place (led_ends place hash values chain_count)
 
 -- Kc: the public key that a one-time signature of a message stands for, whose type code and length are right
 -- (algorithm 4b, steps 2d to 4)

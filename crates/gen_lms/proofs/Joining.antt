@@ -16,7 +16,7 @@ node_texts_tell identifier r a b c d same =
 left_of : (a b c d : List ℕ) → length a ≡ 32 → length c ≡ 32 → a ++ b ≡ c ++ d → a ≡ c
 left_of a b c d la lc same = sym (take_at a b 32 la) ∙ ap (take 32) same ∙ take_at c d 32 lc
 
-right_of : (a b c d : List ℕ) → length a ≡ 32 → length c ≡ 32 → a ++ b ≡ c ++ d → b ≡ d
+pub right_of : (a b c d : List ℕ) → length a ≡ 32 → length c ≡ 32 → a ++ b ≡ c ++ d → b ≡ d
 right_of a b c d la lc same = sym (drop_at a b 32 la) ∙ ap (drop 32) same ∙ drop_at c d 32 lc
 
 -- two nodes that are one are over the same nodes, or two texts collide

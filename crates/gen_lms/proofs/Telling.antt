@@ -1,19 +1,21 @@
 -- What a signature tells that its holder did not make.
-use Rattle.std.proofs.Common.{◌≡◌, ◌<◌, inl, inr, ℕ, ◌+◌, ◌-◌, ◌*◌, List, length, drop, sym, ◌∙◌, arith}
-use Rattle.std.proofs.lemmas.List.{length-drop, length-take-le}
+use Rattle.std.proofs.Common.{◌≡◌, ◌<◌, inl, inr, ℕ, ◌+◌, ◌-◌, ◌*◌, ◌++◌, List, length, drop, sym, ◌∙◌, arith}
+use Rattle.std.proofs.lemmas.List.{append_cancel_left, length-drop, length-take-le}
 use Rattle.sha2.proofs.Facts256.{length-sha256}
+use Rattle.gen_lmots.specs.declared.places.KeyPlace.{KeyPlace}
+use Rattle.gen_lmots.specs.Chains.{message_hash}
 use Rattle.gen_lmots.specs.Keys.{public_key}
 use Rattle.gen_lmots.specs.Signatures.{candidate, key_led}
-use Rattle.gen_lmots.specs.Strings.{hash_length, ots_length}
+use Rattle.gen_lmots.specs.Strings.{d_mesg, front, hash_length, ots_length, u16str}
 use Rattle.gen_lms.specs.Heights.{leaves_of, levels_of}
-use Rattle.gen_lms.specs.Laws.{ForgeryGivesAway, LeafHasOneKey, OtherHashGivesAway, hash_signed, values_in}
+use Rattle.gen_lms.specs.Laws.{ForgedMessageGivesAway, ForgeryGivesAway, LeafHasOneKey, OtherHashGivesAway, hash_signed, message_text, randomizer_in, values_in}
 use Rattle.gen_lms.specs.Rings.{place_of, tree_path}
 use Rattle.gen_lms.specs.Signatures.{number_in, one_time_in, path_in}
 use Rattle.gen_lms.specs.Tree.{leaf, path_at}
 use Rattle.gen_lms.proofs.Hashes.{each_byte, hash_bytes}
-use Rattle.gen_lms.proofs.Joining.{leaves_meet, paths_meet}
+use Rattle.gen_lms.proofs.Joining.{leaves_meet, paths_meet, right_of}
 use Rattle.gen_lms.proofs.Leading.{leads-up, length-tree_path}
-use Rattle.gen_lms.proofs.Meeting.{gives_away}
+use Rattle.gen_lms.proofs.Meeting.{gives_away, same_or_not}
 
 one_path : (path : List ℕ) (levels : ℕ) → length path ≡ hash_length * levels → (i : ℕ) → i < levels → length (path_at path i) ≡ 32
 one_path path levels len i h =
@@ -58,4 +60,23 @@ forgery_gives_away tree message signature signed v hs differ =
       | inr collide ↦ inl collide
       | inl same ↦ inr (other_hash_gives_away tree.seed (place_of tree q) signed (hash_signed tree.identifier message signature) (values_in signature)
           hs (length-sha256 _, hash_bytes _) differ lv (key_of_values tree.identifier message signature key same))
+    ]
+
+message_texts_tell : (place : KeyPlace) (randomizer message other own : List ℕ) → length randomizer ≡ 32 → length other ≡ 32
+    → message_text place randomizer message ≡ message_text place other own → message ≡ own
+message_texts_tell place randomizer message other own lr lo same =
+    right_of randomizer message other own lr lo
+    (append_cancel_left (u16str d_mesg) (randomizer ++ message) (other ++ own)
+    (append_cancel_left (front place) (u16str d_mesg ++ (randomizer ++ message)) (u16str d_mesg ++ (other ++ own)) same))
+
+pub forged_message_gives_away : ForgedMessageGivesAway
+forged_message_gives_away tree message signature randomizer own v lr differ =
+    let place = place_of tree (number_in signature) in
+    let first : length (drop 4 signature) ≡ length signature - 4 = length-drop 4 signature in
+    let one : length (one_time_in signature) ≡ ots_length = length-take-le ots_length (drop 4 signature) (omega (arith, first, v.whole)) in
+    let fourth : length (drop 4 (one_time_in signature)) ≡ length (one_time_in signature) - 4 = length-drop 4 (one_time_in signature) in
+    let wide : length (randomizer_in signature) ≡ 32 = length-take-le 32 (drop 4 (one_time_in signature)) (omega (arith, one, fourth)) in
+    elim (same_or_not (hash_signed tree.identifier message signature) (message_hash place randomizer own)) [
+      | inl same ↦ inl ((λ e. differ (message_texts_tell place (randomizer_in signature) message randomizer own wide lr e)), same)
+      | inr apart ↦ inr (forgery_gives_away tree message signature (message_hash place randomizer own) v (length-sha256 _, hash_bytes _) apart)
     ]

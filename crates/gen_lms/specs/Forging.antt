@@ -18,14 +18,14 @@ step_text place i j value = front place ++ (u16str i ++ (u8str j ++ value))
 abbrev pub key_text : KeyPlace → List ℕ → List ℕ
 key_text place ends = front place ++ (u16str d_pblc ++ ends)
 
--- In chain i the hash q takes fewer steps than the hash that the holder signed, and the value that stands
+-- In chain i another hash takes fewer steps than the hash that the holder signed, and the value that stands
 -- for it leads to the one that the holder showed. So someone else found a value that the holder kept, or one
 -- like it.
-pub record IsBefore (seed : List ℕ) (place : KeyPlace) (signed q values : List ℕ) (i : ℕ) : Type 0 where
+pub record IsBefore (seed : List ℕ) (place : KeyPlace) (signed hash values : List ℕ) (i : ℕ) : Type 0 where
   pub inside : i < chain_count
-  pub fewer : steps_signed q i < steps_signed signed i
+  pub fewer : steps_signed hash i < steps_signed signed i
   pub leads :
-      chained place i (steps_signed q i) (steps_signed signed i - steps_signed q i) (value_at values i)
+      chained place i (steps_signed hash i) (steps_signed signed i - steps_signed hash i) (value_at values i)
       ≡ chained place i 0 (steps_signed signed i) (secret seed place i)
 
 -- Two different values of a chain have one hash in one step.
@@ -34,12 +34,12 @@ StepsCollide place =
     (i : ℕ) × (j : ℕ) × (u : List ℕ) × (v : List ℕ)
     × AreColliding (step_text place i j u) (step_text place i j v)
 
--- What values of the hash q give away of the key of a seed, whose holder signed another hash.
+-- What values of a hash give away of the key of a seed, whose holder signed another hash.
 abbrev pub GivesAway : List ℕ → KeyPlace → List ℕ → List ℕ → List ℕ → Type 0
-GivesAway seed place signed q values =
-    ((i : ℕ) × IsBefore seed place signed q values i)
+GivesAway seed place signed hash values =
+    ((i : ℕ) × IsBefore seed place signed hash values i)
     ⊎ (StepsCollide place
-    ⊎ AreColliding (key_text place (led_ends place q values chain_count))
+    ⊎ AreColliding (key_text place (led_ends place hash values chain_count))
     (key_text place (ends seed place chain_count)))
 
 -- ---- two one-time public keys under one root

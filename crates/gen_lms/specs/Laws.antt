@@ -1,10 +1,11 @@
 -- What a signature tells that its holder did not make: the statements of the laws.
-use Rattle.std.specs.Prelude.{ℕ, ◌≡◌, ◌≢◌, ◌<◌, ◌*◌, ◌⊎◌, List, All, length, take, drop}
+use Rattle.std.specs.Prelude.{ℕ, ◌≡◌, ◌≢◌, ◌<◌, ◌*◌, ◌⊎◌, List, All, length, take, drop, ◌++◌}
+use Rattle.gen_ots.specs.Colliding.{AreColliding}
 use Rattle.gen_lmots.specs.declared.places.KeyPlace.{KeyPlace}
 use Rattle.gen_lmots.specs.Chains.{message_hash}
 use Rattle.gen_lmots.specs.Keys.{public_key}
 use Rattle.gen_lmots.specs.Signatures.{key_led}
-use Rattle.gen_lmots.specs.Strings.{chain_count, hash_length}
+use Rattle.gen_lmots.specs.Strings.{chain_count, d_mesg, front, hash_length, u16str}
 use Rattle.gen_lms.specs.declared.heights.LmsHeight.{LmsHeight}
 use Rattle.gen_lms.specs.Forging.{GivesAway, NodesCollide}
 use Rattle.gen_lms.specs.Heights.{levels_of}
@@ -27,9 +28,10 @@ LeafHasOneKey =
 -- Values that stand for a public key, of another hash than the one that its holder signed, give the key away.
 abbrev pub OtherHashGivesAway : Type 0
 OtherHashGivesAway =
-    (seed : List ℕ) (place : KeyPlace) (signed q values : List ℕ) → IsHash signed → IsHash q → q ≢ signed
-    → length values ≡ hash_length * chain_count → key_led place q values ≡ public_key seed place
-    → GivesAway seed place signed q values
+    (seed : List ℕ) (place : KeyPlace) (signed hash values : List ℕ) → IsHash signed → IsHash hash
+    → hash ≢ signed → length values ≡ hash_length * chain_count
+    → key_led place hash values ≡ public_key seed place
+    → GivesAway seed place signed hash values
 
 -- the randomizer and the values of the one-time signature in a signature
 abbrev pub randomizer_in : List ℕ → List ℕ
@@ -53,3 +55,21 @@ ForgeryGivesAway =
     → NodesCollide tree.identifier
     ⊎ GivesAway tree.seed (place_of tree (number_in signature)) signed
     (hash_signed tree.identifier message signature) (values_in signature)
+
+-- the text that is hashed before it is signed
+abbrev pub message_text : KeyPlace → List ℕ → List ℕ → List ℕ
+message_text place randomizer message = front place ++ (u16str d_mesg ++ (randomizer ++ message))
+
+-- A signature of a message verifies under the public key of a tree, and the tree's holder signed another
+-- message with this leaf. Then the texts of both messages have one hash, or two texts of the tree, or the
+-- leaf's key is given away.
+abbrev pub ForgedMessageGivesAway : Type 0
+ForgedMessageGivesAway =
+    (tree : TreeName) (message signature randomizer own : List ℕ)
+    → Verifies (public_key_of tree) message signature → length randomizer ≡ hash_length → message ≢ own
+    → AreColliding (message_text (place_of tree (number_in signature)) (randomizer_in signature) message)
+    (message_text (place_of tree (number_in signature)) randomizer own)
+    ⊎ (NodesCollide tree.identifier
+    ⊎ GivesAway tree.seed (place_of tree (number_in signature))
+    (message_hash (place_of tree (number_in signature)) randomizer own)
+    (hash_signed tree.identifier message signature) (values_in signature))

@@ -1,6 +1,6 @@
 //! Laws: what a signature gives away that its holder did not make. Each holds of the definitions alone, and
 //! its proof can be computed from the holder's seed.
-ghost use Rattle.gen_lms.specs.Laws.{ForgeryGivesAway, LeafHasOneKey, OtherHashGivesAway};
+ghost use Rattle.gen_lms.specs.Laws.{ForgedMessageGivesAway, ForgeryGivesAway, LeafHasOneKey, OtherHashGivesAway};
 
 /// States that two one-time public keys at one leaf under one root are one, or that two texts of the tree have
 /// one hash.
@@ -19,4 +19,10 @@ pub fn other_hash_gives_the_key_away()
 /// than the one that was signed by its leaf.
 pub fn forgery_gives_the_key_away()
     ensures { ForgeryGivesAway }
+{}
+
+/// States the same of a signature of another message than the one that was signed by its leaf: or the texts of both
+/// messages have one hash.
+pub fn forged_message_gives_the_key_away()
+    ensures { ForgedMessageGivesAway }
 {}

@@ -31,7 +31,10 @@ mod verifying;
 
 pub use faults::{KeyFault, Refusal};
 pub use heights::LmsHeight;
-pub use laws::{forgery_gives_the_key_away, leaf_has_one_key, other_hash_gives_the_key_away};
+pub use laws::{
+    forged_message_gives_the_key_away, forgery_gives_the_key_away, leaf_has_one_key,
+    other_hash_gives_the_key_away,
+};
 pub use leaf_keys::{LeafKey, SignatureRoom};
 pub use public_keys::PublicKey;
 pub use rings::KeyRing;
