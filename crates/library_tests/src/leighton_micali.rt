@@ -1,7 +1,6 @@
 //! Keys and signatures of RFC 8554.
-use gen_lms::{KeyRing, KeyTree, LmsHeight, PublicKey, SignatureRoom, verify};
+use gen_lms::{KeyRing, KeyTree, LmsHeight, SignatureRoom, verify};
 use sha2::{Digest, Sha256};
-use std::alloc::{AllocError, Global};
 use std::test::Fail;
 
 // The identifier, the seed and the root of the upper tree of test case 2 (RFC 8554, appendix F).
@@ -20,7 +19,7 @@ const ROOT: [u8; 32] = [
 ];
 
 // The public key of the tree of height five whose identifier has the bytes 0 to 15 and whose seed has the
-// bytes 0 to 31, and the SHA-256 of the signature of `MESSAGE` by its leaf 3, as the reference makes them.
+// bytes 0 to 31, and the SHA-256 of the signature of `MESSAGE` by its leaf 0, as the reference makes them.
 const KEY: [u8; 56] = [
     0x00, 0x00, 0x00, 0x05, 0x00, 0x00, 0x00, 0x03, 0x00, 0x01, 0x02, 0x03, 0x04, 0x05, 0x06, 0x07,
     0x08, 0x09, 0x0a, 0x0b, 0x0c, 0x0d, 0x0e, 0x0f, 0xa0, 0xe1, 0x13, 0x06, 0xc3, 0x7b, 0xc1, 0xbb,
@@ -29,8 +28,8 @@ const KEY: [u8; 56] = [
 ];
 
 const SIGNATURE_HASH: [u8; 32] = [
-    0x7b, 0x7a, 0x40, 0x55, 0x90, 0xb0, 0x0f, 0x61, 0x99, 0xb1, 0xc5, 0x2a, 0x0d, 0xc1, 0xdd, 0x90,
-    0x54, 0x66, 0x3a, 0x93, 0x4a, 0x5f, 0x68, 0xe4, 0x7a, 0xfb, 0xa5, 0x27, 0x03, 0x0d, 0x36, 0x29,
+    0xa8, 0x1a, 0xa8, 0x1e, 0x71, 0x13, 0x88, 0x5a, 0xc3, 0xd8, 0xf9, 0x92, 0x07, 0x5f, 0x70, 0x7d,
+    0x33, 0xa9, 0x50, 0xf9, 0xb7, 0x6f, 0x7d, 0x85, 0xb6, 0x24, 0x9c, 0xc9, 0x60, 0x35, 0xda, 0x74,
 ];
 
 const MESSAGE: &[u8] = b"a message";
@@ -42,37 +41,29 @@ fn the_root_is_that_of_the_standard(rt: HostRuntime) -> Result<(), Fail> {
     Ok(())
 }
 
-// Returns the ring of a tree whose identifier and seed have ascending bytes.
-fn ring(alloc: Global) -> Result<KeyRing, AllocError> {
+#[test]
+fn keys_and_signatures_are_those_of_the_reference(rt: HostRuntime) -> Result<(), Fail> {
     let mut identifier = [0; 16];
-    let mut seed = [0; 32];
     for i in 0..16u8 {
         identifier[usize::from(i)] = i;
     }
+    let mut seed = [0; 32];
     for i in 0..32u8 {
         seed[usize::from(i)] = i;
     }
-    let tree = KeyTree::from_seed(alloc, &identifier, &seed, LmsHeight::Five)?;
-    Ok(KeyRing::open(tree))
-}
-
-#[test]
-fn keys_and_signatures_are_those_of_the_reference(rt: HostRuntime) -> Result<(), Fail> {
     let room = SignatureRoom::new(rt.alloc(), LmsHeight::Five)?;
-    let mut ring = ring(rt.alloc())?;
+    let tree = KeyTree::from_seed(rt.alloc(), &identifier, &seed, LmsHeight::Five)?;
+    let mut ring = KeyRing::open(tree);
     let key = ring.public_key();
-    let skipped = ring.skip_to(3);
-    let signature = ring.take().map(|key| key.sign(room, &[7; 32], MESSAGE));
+    let signature = match ring.take() {
+        Some(leaf) => leaf.sign(room, &[7; 32], MESSAGE),
+        None => Vec::new(rt.alloc()),
+    };
     let next = ring.close();
-    assert!(rt; skipped && next == 4);
     let mut bytes = Vec::new(rt.alloc());
     key.append_to(&mut bytes)?;
+    assert!(rt; next == 1);
     assert!(rt; bytes.as_slice() == KEY.as_slice());
-    assert!(rt; PublicKey::read(&KEY).is_ok_and(|read| read.root == key.root));
-    let Some(signature) = signature else {
-        assert!(rt; false);
-        return Ok(());
-    };
     assert!(rt; Sha256::digest(&signature) == SIGNATURE_HASH);
     assert!(rt; verify(&key, MESSAGE, &signature).is_ok());
     assert!(rt; verify(&key, b"another", &signature).is_err());
