@@ -438,9 +438,10 @@ def try_nodes(prefix, tally):
     names = {it.words[-1] for it in man_vamuretu.command_of(program).commands}
     tally.hold("its commands", None if names == commands_of(program) - {"help"} else f"{names}")
     if shutil.which("bash"):
-        words = 'COMP_WORDS=(vamuretu ""); COMP_CWORD=1; _vamuretu; echo "${COMPREPLY[*]}"'
-        end = run("bash", ["-c", f'. "{prefix}/{man_vamuretu.BASH}"; {words}'])
-        tally.hold("bash, vamuretu", None if {*end.wrote.decode().split()} == names | {"--help", "--version"} else f"{end}")
+        for word, wanted in (("", names), ("-", {"--help", "--version"})):
+            words = f'COMP_WORDS=(vamuretu "{word}"); COMP_CWORD=1; _vamuretu; echo "${{COMPREPLY[*]}}"'
+            end = run("bash", ["-c", f'. "{prefix}/{man_vamuretu.BASH}"; {words}'])
+            tally.hold(f"bash, vamuretu {word}", None if {*end.wrote.decode().split()} == wanted else f"{end}")
     for shell, file in (("zsh", man_vamuretu.ZSH), ("fish", man_vamuretu.FISH)):
         if shutil.which(shell):
             end = run(shell, ["-n", os.path.join(prefix, file)])
