@@ -4,9 +4,9 @@
     bench/turns.py BEFORE PROGRAM ..
 
 A program may be of another commit or for other processors. The commands are `decide` and `run` of 16 nodes with a seed, who are
-all neighbours, in 16 rounds, and `audit` of the bundle by 1, 2, 4 and 16 workers. An archive is 200 copies of that bundle, each
-audited by a process of its own, four at a time. Each command has a turn of each program before the next turn begins. Wall time
-is told, and behind it the processor time of all threads. Nothing else should run.
+all neighbours, in 16 rounds, and `audit` of the bundle by 1, 2, 4 and 16 workers, and as JSON by one. An archive is 200 copies
+of that bundle, each audited by a process of its own, four at a time. Each command has a turn of each program before the next
+turn begins. Wall time is told, and behind it the processor time of all threads. Nothing else should run.
 """
 import os
 import resource
@@ -75,6 +75,7 @@ def main():
             (["decide"], text),
             (["run"], text),
             *((["audit", "--workers", str(it)], bundle) for it in (1, 2, 4, 16)),
+            (["audit", "--json"], bundle),
         ]:
             show(" ".join(words), medians(programs, TURNS, lambda it, words=words, given=given: timed([it, *words], given)))
         each = ["xargs", "-P", str(AT_ONCE), "-n", "1"]

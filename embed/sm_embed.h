@@ -87,7 +87,7 @@ typedef struct {
 /* The kinds of facts, with the fields that each has besides `kind` and `run`. */
 enum sm_fact_kind {
     SM_FACT_RUN = 1,         /* number: an sm_verdict; order: that of agreed; generals: n; traitors: m; set: the
-                                generals that are held for faulty, bit g for general g; run_id */
+                                generals that are assumed faulty, bit g for general g; run_id */
     SM_FACT_STATUS = 2,      /* general; number: an sm_general_status */
     SM_FACT_DECISION = 3,    /* general; order: what it decides; set: of sm_decide the orders that it accepted, bit v
                                 for order v */
@@ -108,14 +108,14 @@ enum sm_fact_kind {
     SM_FACT_NODE = 11        /* general; other: the node of the system that it is in the run */
 };
 
-/* What a verdict says: nothing is found, and at most m generals are held for faulty; nothing is found, and more are,
+/* What a verdict says: nothing is found, and at most m generals are assumed faulty; nothing is found, and more are,
    which promises no agreement; something is found. */
 enum sm_verdict { SM_VERDICT_AGREED = 1, SM_VERDICT_EXPLAINED = 2, SM_VERDICT_NO = 3 };
 
 /* The status of a general in a verdict: the first of these that fits. */
 enum sm_general_status {
     SM_GENERAL_CONVICTED = 1, /* a conviction of this run names it */
-    SM_GENERAL_HELD = 2,      /* it is held for faulty */
+    SM_GENERAL_HELD = 2,      /* it is assumed faulty */
     SM_GENERAL_SUSPECTED = 3, /* a finding N1 to N9 names it */
     SM_GENERAL_TRUSTED = 4    /* none of these */
 };

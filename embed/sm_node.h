@@ -23,20 +23,20 @@
 
      SM_OK       it was done
      SM_NO       it was done, and the answer is a no: of sm_node_shown and sm_node_next_run alone
-     SM_MISUSE   the call is not allowed here, or a pointer is null though there are bytes, and nothing was changed
-     SM_FAULT    the input has a fault, and nothing was changed: *fault is its number
+     SM_MISUSE   the call is not allowed here, or a pointer is null though there are bytes, and node, keys and room stay
+     SM_FAULT    the input has a fault, and node, keys and room stay: *fault is its number
      SM_MEMORY   memory was refused, and the same call may be made again
-     SM_LENGTH   the bytes are longer than the room, and nothing was changed: call again with room for *count bytes
+     SM_LENGTH   the bytes are longer than the room, and node and room stay: call again with room for *count bytes
      SM_OTHER    the receipts are of another run than the one that is expected, or the record or the admission is of
                  another system: of sm_node_shown, sm_node_state_seed and sm_node_admit alone
 
-   At SM_MEMORY nothing was changed, but by two functions: after sm_node_begin_round a round may be half begun, and
-   after sm_node_end_round half ended. The same call continues it, and nothing is signed twice. Until it is done,
-   sm_node_hear reports SM_F1, and every other call on the node is SM_MISUSE, but sm_node_free and the calls that only
-   tell something, as sm_node_round.
+   At SM_MEMORY they stay too, but by two functions: after sm_node_begin_round a round may be half begun, and after
+   sm_node_end_round half ended. The same call continues it, and nothing is signed twice. Until it is done,
+   sm_node_hear reports SM_F1, and every other call on the node is SM_MISUSE, but sm_node_free and the calls that
+   only tell something, as sm_node_round.
 
-   At SM_FAULT alone *fault is not 0. At SM_OK and SM_LENGTH *count is the number of bytes. Otherwise it is 0. The room behind
-   the bytes keeps its old content. So does the whole room if no bytes were written.
+   At SM_FAULT alone *fault is not 0. At SM_OK and SM_LENGTH *count is the number of bytes. Otherwise it is 0. The
+   room behind the bytes keeps its old content. So does the whole room if no bytes were written.
 
    A pointer to bytes, edges, roots or logs may be null if their number is 0. If it is null and their number is not 0,
    the call is SM_MISUSE. This is tested by C in this header, before the call of the archive: no proof is about it, and
@@ -96,7 +96,7 @@ enum sm_node_fault {
     SM_OTHER_VERSION = 16, /* the keys are of another version than the header */
     SM_USED_SLOT = 17, /* a node was made of the keys in the slot of the header, or in a later one */
     SM_F1 = 21, SM_F2, SM_F3, SM_F4, SM_F5, SM_F6, SM_F7, SM_F8, /* of a frame */
-    SM_U1 = 31, SM_U2,  /* two generals that are not held for faulty have no walk, or none of at most d edges */
+    SM_U1 = 31, SM_U2,  /* two generals that are not assumed faulty have no walk, or none of at most d edges */
     /* Of a bundle. Only SM_B4, SM_B7 and SM_B9 can come, as no bundle is read, and the library makes the walks. A fault
        of the bundle's header is reported as the header's. */
     SM_B1 = 41, SM_B2, SM_B3, SM_B4, SM_B5, SM_B6, SM_B7, SM_B8, SM_B9,
@@ -229,11 +229,11 @@ uint32_t sm_node_combine(uint32_t combination, const uint8_t *orders, size_t cou
 void sm_node_free(sm_node *node);
 
 /* Writes the bytes of the bundle of a run. The caller hands in the header's bytes, the set of the generals that are
-   held for faulty, bit g for general g, and the logs that were collected, of all generals or of some. The library finds
+   assumed faulty, bit g for general g, and the logs that were collected, of all generals or of some. The library finds
    the walks between the other generals. There are at most 64 logs, and several may be of one general. They stand one
    after another in `bytes`, in ascending order of their generals. Their bytes may be anybody's, and sm_audit says what
    they are. Faults of the header are reported first, then SM_U1 and SM_U2, then those of the bundle. At SM_U1 and SM_U2
-   *apart is the least pair of generals, not held for faulty, that have no walk of at most d edges, the lesser one first.
+   *apart is the least pair of generals, not assumed faulty, that have no walk of at most d edges, the lesser one first.
    Otherwise it is 0 and 0. If `parted` is not 0, there is no SM_U1 and no SM_U2: the bundle then has no walks. The audit
    finds that, which is N10, and all else that it finds in the logs. SM_MISUSE if the set has a general above 15, a
    general of a log is above 15, or the lengths of the logs do not add up to byte_count. Returns SM_OK, SM_MISUSE,
@@ -401,12 +401,12 @@ static inline const char *sm_node_fault_text(uint32_t fault) {
     case SM_F6: return "the frame is of another run";
     case SM_F7: return "the frame is of another round";
     case SM_F8: return "the frame has another sender or receiver";
-    case SM_U1: return "two generals that are not held for faulty have no walk";
-    case SM_U2: return "two generals that are not held for faulty have no walk of at most d edges";
+    case SM_U1: return "two generals that are not assumed faulty have no walk";
+    case SM_U2: return "two generals that are not assumed faulty have no walk of at most d edges";
     case SM_B1: return "the bytes end before the bundle does";
     case SM_B2: return "the first four bytes are neither SMB1 nor SMB2";
     case SM_B3: return "the header of the bundle breaks a rule";
-    case SM_B4: return "a general is held for faulty that the header does not have";
+    case SM_B4: return "a general is assumed faulty that the header does not have";
     case SM_B5: return "there are more than 120 walks, or a walk has not 2 to 16 generals";
     case SM_B6: return "a walk is none between two generals, or stands out of order";
     case SM_B7: return "there are more than 64 logs, or a log is of a general that the header does not have";

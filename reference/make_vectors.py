@@ -1,5 +1,5 @@
 #!/usr/bin/env python3
-"""Makes the test vectors of docs/ROWS.md, in vectors/, with the reference.
+"""Makes the test vectors of crates/docs/ROWS.md, in vectors/, with the reference.
 
     python3 reference/make_vectors.py            writes the files
     python3 reference/make_vectors.py --check    names the files that are not as they would be written

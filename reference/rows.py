@@ -1,5 +1,5 @@
 #!/usr/bin/env python3
-"""Asks the reference for the answer to each row (docs/ROWS.md).
+"""Asks the reference for the answer to each row (crates/docs/ROWS.md).
 
     python3 reference/rows.py [FILE ..]
     python3 reference/rows.py --stdout

@@ -8,7 +8,7 @@
 The pages are the files *.md that git knows, or all of them where there is no git, as in a copy. Words are counted as `wc -w` does,
 and a minute has 200 of them. A time in docs/README.md stands in brackets behind the link to its page, as `[WALK](WALK.md) (30 min)`,
 and is rounded up. With --check it prints nothing, and its status is 0, where each time is right, and the pages for those who use
-Vamuretu have at most 100,000 words. Pages for those who change the proofs have no bound.
+Vamuretu have at most 100,000 words. Pages below crates/ and edits/ are for those who change the proofs, and have no bound.
 """
 import pathlib
 import re
@@ -16,8 +16,8 @@ import subprocess
 import sys
 
 WORDS_A_MINUTE, MOST_WORDS = 200, 100_000
-# The pages and folders of pages for those who change the proofs.
-OF_MAINTAINERS = ("crates/", "edits/", "docs/ROWS.md", "docs/LIBRARY.md", "docs/CHANGING.md", "docs/DECISIONS.md")
+# The folders whose pages are for those who change the proofs.
+OF_MAINTAINERS = ("crates", "edits")
 MAP = pathlib.Path("docs/README.md")
 TIME = re.compile(r"(\]\(([^)#\s]+\.md)\) \()(\d+)( min\))")
 
@@ -43,7 +43,7 @@ def minutes_of(words):
 def print_all():
     counted = [(page, words_of(page)) for page in pages()]
     total = sum(words for _, words in counted)
-    users = sum(words for page, words in counted if not str(page).startswith(OF_MAINTAINERS))
+    users = sum(words for page, words in counted if page.parts[0] not in OF_MAINTAINERS)
     for name, words in [*counted, ("pages for users", users), ("all pages", total)]:
         print(f"{words:7,} words {minutes_of(words):4} min  {name}")
     return 0
@@ -69,7 +69,7 @@ def timed():
 
 
 def check():
-    total = sum(words_of(it) for it in pages() if not str(it).startswith(OF_MAINTAINERS))
+    total = sum(words_of(it) for it in pages() if it.parts[0] not in OF_MAINTAINERS)
     found = [f"{MAP}: {it}" for it in timed()[1]]
     if not TIME.search(MAP.read_text(encoding="utf-8")):
         found.append(f"{MAP}: it gives no time")

@@ -1,5 +1,5 @@
 #!/usr/bin/env python3
-"""Names each page that breaks the rules of docs/CHANGING.md for the length of sentences, with its longest sentence.
+"""Names each page that breaks the rules of crates/docs/CHANGING.md for the length of sentences, with its longest sentence.
 
     python3 tools/style.py          looks at the pages that keep the rules, at the top of the repository
     python3 tools/style.py --all    prints the numbers of every page: words a sentence, words of the longest, words, its name
@@ -28,14 +28,14 @@ KEPT = [
     "docs/ARCHIVE.md",
     "docs/ASSURANCE.md",
     "docs/BUDGET.md",
-    "docs/CHANGING.md",
+    "crates/docs/CHANGING.md",
     "docs/COMMANDS.md",
-    "docs/DECISIONS.md",
+    "crates/docs/DECISIONS.md",
     "docs/EMBED.md",
     "docs/FORMATS.md",
     "docs/GLOSSARY.md",
     "docs/IDENTITIES.md",
-    "docs/LIBRARY.md",
+    "crates/docs/LIBRARY.md",
     "docs/LIFE.md",
     "docs/LLVM.md",
     "docs/NODES.md",
@@ -45,7 +45,7 @@ KEPT = [
     "docs/README.md",
     "docs/RECORDS.md",
     "docs/REFERENCE.md",
-    "docs/ROWS.md",
+    "crates/docs/ROWS.md",
     "docs/SYSTEM.md",
     "docs/WALK.md",
     "docs/WORDS.md",

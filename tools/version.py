@@ -47,7 +47,7 @@ COPIES = [
     ("INSTALL.md", "`libsm_embed.so.{short}`"),
 ]
 # What is made with the version, tells versions of before, or has numbers of its own.
-APART = ("man/", "CHANGELOG.md", "out/", ".git/", "docs/DECISIONS.md", "vamuretu/Cargo.lock")
+APART = ("man/", "CHANGELOG.md", "out/", ".git/", "crates/docs/DECISIONS.md", "vamuretu/Cargo.lock")
 FORMS = {"version": r"\d+\.\d+\.\d+", "short": r"\d+\.\d+", "number": r"\d+"}
 
 

@@ -152,7 +152,7 @@ def share_root(draws, *given):
 
 
 def other_faulty(draws, bundle):
-    """Others are held for faulty, with the walks as they were or with none."""
+    """Others are assumed faulty, with the walks as they were or with none."""
     bundle.faulty = draws.below(1 << bundle.header.network.generals).to_bytes(2, "big")
     if draws.is_one_in(3):
         bundle.walks = []

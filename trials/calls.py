@@ -37,7 +37,7 @@ def small_cases(program):
         bundle = run(program, ["run"], texts[case]).wrote
         for name in OF_BUNDLES:
             yield name, case, bundle, ALONE
-        yield "audit", case, bundle, IN_THREADS
+        yield "audit", case, bundle, ALONE
     yield "refute", "stolen key", withheld(program), ALONE
     yield "write_campaign", "one slot twice", one_slot_twice(program), ALONE
 

@@ -1,7 +1,8 @@
 """What the program asks of the system: starts of threads, and memory. No output tells whether an option reaches its call.
 
-`--workers` and the number of cores decide how many threads are started, and `--capacity` how much memory the edges take. A long
-input stands once in memory. The board at which two workers leave what they verified takes memory.
+`--workers` and the number of cores decide how many threads are started, and `--capacity` how much memory the edges take. A worker
+of an audit takes logs by eights. JSON takes one thread more, which hashes the input. A long input stands once in memory. The board
+at which two workers leave what they verified takes memory.
 
 The library that counts is count.c. No clock is looked at, so other work on the machine changes nothing.
 """
@@ -11,12 +12,14 @@ import subprocess
 import tempfile
 from typing import NamedTuple
 
-from layout import front_length
+from layout import Bundle, front_length
 from programs import count_cores, run, spell
-from scenarios import chain, scenario, signed, sixteen
+from scenarios import chain, everybody, scenario, sixteen
 
 HERE = os.path.dirname(os.path.abspath(__file__))
 WORKERS = [1, 2, 5, 16]
+# A worker of an audit takes so many logs at a time, or a multiple of them.
+EIGHT = 8
 CAPACITIES = 1, 16
 # Ends of edges between 16 generals who are all neighbours.
 ENDS = 16 * 15
@@ -25,7 +28,7 @@ MIB = 1 << 20
 WORD = 8
 # An input of so many logs of so many bytes, and the most that its audit may have of memory: half as much again.
 LOGS, LOG_BYTES = 64, 2 * MIB
-# Bytes that a board takes at least for the signatures that one of two bundles of two logs has more than the other.
+# Bytes that a board takes at least for the signatures that one of two bundles of nine logs has more than the other.
 LEAST_AT_BOARD = 512
 # How often a second worker is counted: one that comes late finds all work done, and takes less.
 TIMES_AT_BOARD = 8
@@ -68,12 +71,19 @@ class Counter:
         self.tally.hold(name, None if found == wanted else f"{found}, not {wanted}")
 
 
-def try_workers(counter, text, bundle):
-    """So many workers are so many threads, of which the first is the program's own."""
-    for command in "audit", "draw":
-        for workers in WORKERS:
-            words = [command, "--workers", str(workers)]
-            counter.hold(f"threads of {spell(words)}", counter.asked(words, bundle).threads, workers - 1)
+def auditors(workers, logs):
+    """How many threads so many workers are who audit so many logs, of which the first is the program's own."""
+    groups = -(-logs // EIGHT)
+    return -(-groups // -(-groups // workers)) - 1
+
+
+def try_workers(counter, text, bundle, long_bundle):
+    """So many workers are so many threads, but no more than there are groups of eight logs."""
+    for workers in WORKERS:
+        for words, given, logs in ((["audit"], bundle, 16), (["draw"], bundle, 16), (["audit"], long_bundle, LOGS)):
+            words = [*words, "--workers", str(workers)]
+            counter.hold(f"threads of {spell(words)}, {logs} logs", counter.asked(words, given).threads, auditors(workers, logs))
+    counter.hold("threads of audit --json", counter.asked(["audit", "--json"], bundle).threads, 1)
     receipt = run(counter.program, ["receipt", "--general", "0"], bundle).wrote
     for words, given in ((["accuse", "--general", "0"], bundle), (["decide"], text), (["receipts"], receipt)):
         counter.hold(f"threads of {spell(words)}", counter.asked(words, given).threads, 0)
@@ -107,13 +117,17 @@ def try_capacity(counter, text, campaign):
         counter.tally.hold(name, None if more >= least else f"{more} bytes more than with --capacity {CAPACITIES[0]}, not {least}")
 
 
-def try_peak(counter, bundle):
-    """A long input stands once in memory."""
+def long_bundle_of(bundle):
+    """A bundle of many long logs, none of which reads."""
     header = bundle[: front_length(bundle)]
     exhibit = b"\0" + LOG_BYTES.to_bytes(4, "big") + bytes(LOG_BYTES)
-    long_bundle = header + b"\0\0\0" + bytes([LOGS]) + exhibit * LOGS
+    return header + b"\0\0\0" + bytes([LOGS]) + exhibit * LOGS
+
+
+def try_peak(counter, long_bundle):
+    """A long input stands once in memory."""
     most = 3 * len(long_bundle) // 2048
-    for words in (["audit"], ["audit", "--workers", "16"], ["accuse", "--general", "0"]):
+    for words in (["audit"], ["audit", "--workers", "16"], ["audit", "--json"], ["accuse", "--general", "0"]):
         peak = counter.asked(words, long_bundle).peak
         counter.tally.hold(f"memory of {spell(words)}", None if peak < most else f"{peak} KiB, at most {most}")
 
@@ -125,10 +139,17 @@ def more_for_a_second(counter, bundle):
     return max(two) - alone
 
 
-def try_board(counter, few, many):
-    """Workers leave what they verified at a board. So where there is more to verify, a second worker takes more memory, though
-    it has one log in either case. If workers share nothing, it takes as much."""
-    more = more_for_a_second(counter, many) - more_for_a_second(counter, few)
+def try_board(counter, program):
+    """Workers leave what they verified at a board. So where the first worker has more to verify, a second one takes more memory,
+    though it has the same log in either case: that of a general who heard nothing. If workers share nothing, it takes as much."""
+    lonely, text = 15, scenario([*everybody(15), (14, 15)], 1, 1, 1, {14: []})
+    shown = Bundle(run(program, ["run"], text).wrote)
+    last = [it for it in shown.exhibits if it[0] == lonely]
+    first = shown.exhibits[:EIGHT]
+    more = 0
+    for exhibits, sign in (([(general, b"\0") for general, _ in first], -1), (first, 1)):
+        shown.exhibits = exhibits + last
+        more += sign * more_for_a_second(counter, shown.spell())
     wanted = None if more >= LEAST_AT_BOARD else f"{more} bytes more where more is verified, not {LEAST_AT_BOARD}"
     counter.tally.hold("memory of the board of two workers", wanted)
 
@@ -142,9 +163,9 @@ def trials(program, tally):
     bundle = run(program, ["run"], text).wrote
     with tempfile.TemporaryDirectory() as folder:
         counter = Counter(program, tally, folder)
-        try_workers(counter, text, bundle)
+        long_bundle = long_bundle_of(bundle)
+        try_workers(counter, text, bundle, long_bundle)
         try_trees(counter, text, campaign)
         try_capacity(counter, text, b"campaign 1\n" + sixteen(slot=0))
-        try_peak(counter, bundle)
-        texts = signed()
-        try_board(counter, *(run(program, ["run"], texts[name]).wrote for name in ("pair", "none_left")))
+        try_peak(counter, long_bundle)
+        try_board(counter, program)

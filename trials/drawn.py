@@ -364,7 +364,7 @@ def other_words(draws, command, runs):
 
 
 def draw_list(draws):
-    """Who is held for faulty, in any order."""
+    """Who is assumed faulty, in any order."""
     most = draws.one_of([2, 3, 4, 4, 6, 16])
     return ",".join(map(str, some_of(draws, range(most), draws.below(most + 1)))) or "none"
 

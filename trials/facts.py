@@ -6,7 +6,7 @@ from vamuretu._libraries import Fact
 NAMES = [name for name, _ in Fact._fields_]
 RUN, STATUS, DECISION, FINDING, CONVICTION, ACROSS, EQUAL_ROOTS, SHOWN, RECEIPT = range(1, 10)
 VERDICTS = {"agreed": 1, "explained": 2, "no": 3}
-STATUSES = {"convicted": 1, "held for faulty": 2, "suspected": 3, "trusted": 4}
+STATUSES = {"convicted": 1, "assumed faulty": 2, "suspected": 3, "nothing found": 4}
 
 
 def row(kind, run=0, **fields):

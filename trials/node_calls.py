@@ -450,7 +450,7 @@ def try_nodes(program, library):
 
 
 def try_bundles(program, library):
-    """Bundles of many logs, which the program makes and reads too. That of two generals of whom one is held for faulty has 81
+    """Bundles of many logs, which the program makes and reads too. That of two generals of whom one is assumed faulty has 81
     bytes without exhibits, and an exhibit of one byte has 6. There are 64 at most."""
     header = header_of_two(program, library)
     with tempfile.TemporaryDirectory() as folder:

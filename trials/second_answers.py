@@ -1,7 +1,7 @@
 """The rows of crates/rows, which the gate tries on the libraries: the reference answers each as it stands there.
 
 Rows of wrong answers are to be answered otherwise, and the gate expects of the program that it says so. How rows are written,
-docs/ROWS.md says.
+crates/docs/ROWS.md says.
 """
 import os
 

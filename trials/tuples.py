@@ -31,7 +31,7 @@ class Scene:
         self.logs = {general: entries_of(general, self.run[general]) for general in self.rest}
 
     def some_generals(self):
-        """Whom somebody holds for faulty: any set but that of all, each as often."""
+        """Whom somebody assumes faulty: any set but that of all, each as often."""
         number = self.draws.below(2 ** self.plan.generals - 1)
         return tuple(general for general in self.everybody if number >> general & 1)
 

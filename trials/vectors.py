@@ -1,7 +1,7 @@
 """The vectors of reference/vectors/ that are whole commands and no rows, which the gate tries: the program answers as they say.
 
 Some vector tells each fault and each finding of FORMATS but H8, F1 and F2, which no single input can have. What each file is,
-docs/ROWS.md says. That the files are what the reference makes is tried too.
+crates/docs/ROWS.md says. That the files are what the reference makes is tried too.
 """
 import hashlib
 import json

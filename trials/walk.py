@@ -4,7 +4,7 @@ In a block of indented lines one that begins with `$ ` is a command, and the lin
 end of the block, are what it prints, on standard output and standard error together. The commands of a document are run one
 after another by `sh` in a folder of their own, which has a copy of examples/, with `sm_tool` as the program. Besides,
 man/sm_tool.1 is the page that tools/man.py makes of docs/COMMANDS.md, man/*.3 are those that tools/man3.py makes of the headers,
-and each piece of code in docs/LIBRARY.md stands in the source that is named in front of it.
+and each piece of code in crates/docs/LIBRARY.md stands in the source that is named in front of it.
 """
 import os
 import re
@@ -63,19 +63,19 @@ def try_document(program, document, tally):
 def quotes(document):
     """The pieces of code of a document, each with the source that the last link before it names."""
     rows, source = [], None
-    with open(os.path.join(TOP, "docs", document), encoding="utf-8") as text:
+    with open(os.path.join(TOP, "crates", "docs", document), encoding="utf-8") as text:
         for at, piece in enumerate(text.read().split("```")):
             if at % 2:
                 rows.append((source, piece.removeprefix("rust\n")))
             else:
-                source = ([source] + re.findall(r"\]\(\.\./(crates/[^)]*\.rt)\)", piece))[-1]
+                source = ([source] + re.findall(r"\]\(\.\./(\w+/[^)]*\.rt)\)", piece))[-1]
     return rows
 
 
 def try_quotes(document, tally):
     """Whether the sources have what a document quotes of them."""
     for source, quote in quotes(document):
-        with open(os.path.join(TOP, source), encoding="utf-8") as text:
+        with open(os.path.join(TOP, "crates", source), encoding="utf-8") as text:
             is_there = quote in text.read()
         line = quote.split("\n", maxsplit=1)[0].strip()
         tally.hold(f"{document}, {line}", None if is_there else f"{source} doesn't have it")

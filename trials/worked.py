@@ -145,7 +145,7 @@ def try_bytes(program, tally):
     none_left = pair[:78] + b"\3" + pair[79:]
     head = stored("pair.verdict").splitlines(True)[0]
     wanted = End(1, head + b"verdict no\nN11\nend\n", b"")
-    tally.hold("pair, both are held for faulty", differs(run(program, ["audit"], none_left), wanted))
+    tally.hold("pair, both are assumed faulty", differs(run(program, ["audit"], none_left), wanted))
     slotted = run(program, ["run"], stored("pair_in_slot.scenario")).wrote
     for name, data, answer in [
         ("a header of version 1 behind the mark of version 2", b"SMB2" + pair[4:], "fault B3 H10"),

@@ -25,7 +25,7 @@ class Exhibit:
 
 @dataclass(frozen=True)
 class Bundle:
-    """A header, who is held for faulty, walks and exhibits (FORMATS.md#bundle)."""
+    """A header, who is assumed faulty, walks and exhibits (FORMATS.md#bundle)."""
 
     header: Header
     faulty: Tuple[int, ...]
@@ -87,7 +87,7 @@ def make_walks(network: Network, rest: Sequence[int]) -> Tuple[Path, ...]:
 
 
 def hold(bundle: Bundle, faulty: Sequence[int]) -> Bundle:
-    """A bundle as if others were held for faulty, or B4: the header and the exhibits stay (FORMATS.md#another-list)."""
+    """A bundle as if others were assumed faulty, or B4: the header and the exhibits stay (FORMATS.md#another-list)."""
     network = bundle.header.network
     if any(general >= network.generals for general in faulty):
         raise Fault("B4")

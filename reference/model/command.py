@@ -45,7 +45,7 @@ RANGES = {"capacity": (1, 16), "workers": (1, 16), "general": (0, 15), "slot": (
 TAKEN = {"number": "the number of a run"}
 # What says of which runs an input has to be.
 OF_RUNS = ("run", "admission", "system")
-# Of each command what else it takes: of which runs its input has to be, who is held for faulty, a context, a file, and flags.
+# Of each command what else it takes: of which runs its input has to be, who is assumed faulty, a context, a file, and flags.
 TAKES = {
     "decide": ("json",), "run": ("print-run",), "judge": ("strict", "json"), "campaign": ("print-run",),
     "audit": (*OF_RUNS, "faulty", "strict", "json", "files-from"), "draw": (*OF_RUNS, "faulty"),
@@ -152,7 +152,7 @@ def _number(option: str, value: str) -> int:
 
 
 def _faulty(text: str) -> Tuple[int, ...]:
-    """Who is held for faulty (COMMANDS.md#words)."""
+    """Who is assumed faulty (COMMANDS.md#words)."""
     numbers = [] if text == "none" else [_number_in(part, 0, 15) for part in text.split(",")]
     members = sorted(number for number in numbers if number is not None)
     if len(members) != len(numbers) or len(set(members)) != len(members):

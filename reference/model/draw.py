@@ -162,8 +162,8 @@ def _line(places: Places, judgement: Judgement, general: int) -> str:
             f'<text x="16" y="{height - 8}">general {general}</text>')
     if general not in judgement.bundle.faulty:
         return f"<g><title>general {general}</title>{line}</g>\n"
-    held = f'<text x="16" y="{height + 16}">held for faulty</text>'
-    return f'<g class="faulty"><title>general {general} is held for faulty</title>{line}{held}</g>\n'
+    held = f'<text x="16" y="{height + 16}">assumed faulty</text>'
+    return f'<g class="faulty"><title>general {general} is assumed faulty</title>{line}{held}</g>\n'
 
 
 def _end(places: Places, judgement: Judgement, general: int, kind: Optional[int]) -> str:
@@ -210,7 +210,7 @@ def _legend(places: Places) -> str:
     drawn.append(f'<g transform="translate(160 {places.legend(0) + 4})">\n'
                  '<title>what the lines mean</title>'
                  '<text>dashed: only one of the two logs has the message</text>\n'
-                 '<text y="18" class="faulty">grey: held for faulty</text>\n'
+                 '<text y="18" class="faulty">grey: assumed faulty</text>\n'
                  '<text y="36" class="found">red: found by the audit, or convicted</text></g>\n')
     return "".join(drawn)
 

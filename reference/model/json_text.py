@@ -93,9 +93,9 @@ def status_of(judgement: Judgement, accused: Set[int], general: int) -> str:
     if general in accused:
         return "convicted"
     if general in judgement.bundle.faulty:
-        return "held for faulty"
+        return "assumed faulty"
     named = {number for finding in judgement.findings if finding.number < 10 for number in finding.generals}
-    return "suspected" if general in named else "trusted"
+    return "suspected" if general in named else "nothing found"
 
 
 def parted(network: Network, faulty: Collection[int]) -> Optional[List[int]]:

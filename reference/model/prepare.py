@@ -49,7 +49,7 @@ def whole_header(data: bytes) -> Header:
 
 
 def bundle_of_parts(header: bytes, faulty: Sequence[int], exhibits: Sequence[Exhibit]) -> Bundle:
-    """The bundle of a header's bytes, of who is held for faulty, and of exhibits, or its first fault (FORMATS.md#bundle)."""
+    """The bundle of a header's bytes, of who is assumed faulty, and of exhibits, or its first fault (FORMATS.md#bundle)."""
     known = whole_header(header)
     bundle = hold(Bundle(known, (), (), ()), faulty)
     if len(exhibits) > MOST_EXHIBITS or any(it.general >= known.network.generals for it in exhibits):

@@ -1,1 +1,1 @@
-"""What the reference answers to the calls of rows (docs/ROWS.md)."""
+"""What the reference answers to the calls of rows (crates/docs/ROWS.md)."""

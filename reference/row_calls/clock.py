@@ -1,4 +1,4 @@
-"""The call of the clock (docs/ROWS.md)."""
+"""The call of the clock (crates/docs/ROWS.md)."""
 
 from __future__ import annotations
 

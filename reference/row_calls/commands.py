@@ -1,4 +1,4 @@
-"""Calls of words and commands (docs/ROWS.md)."""
+"""Calls of words and commands (crates/docs/ROWS.md)."""
 
 from __future__ import annotations
 

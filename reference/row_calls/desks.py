@@ -1,4 +1,4 @@
-"""Calls of desks (docs/ROWS.md)."""
+"""Calls of desks (crates/docs/ROWS.md)."""
 
 from __future__ import annotations
 

@@ -1,4 +1,4 @@
-"""Calls of frames, as nodes send them (docs/ROWS.md)."""
+"""Calls of frames, as nodes send them (crates/docs/ROWS.md)."""
 
 from __future__ import annotations
 

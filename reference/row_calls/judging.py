@@ -1,4 +1,4 @@
-"""Calls of reports, evidence, bundles and campaigns (docs/ROWS.md)."""
+"""Calls of reports, evidence, bundles and campaigns (crates/docs/ROWS.md)."""
 
 from __future__ import annotations
 

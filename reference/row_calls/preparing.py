@@ -1,5 +1,5 @@
 """Calls that prepare a run and a dispute: roots and headers as texts, bundles of parts, and bundles with another list
-(docs/ROWS.md)."""
+(crates/docs/ROWS.md)."""
 
 from __future__ import annotations
 

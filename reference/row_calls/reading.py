@@ -1,4 +1,4 @@
-"""Rows: how they are written (docs/ROWS.md)."""
+"""Rows: how they are written (crates/docs/ROWS.md)."""
 
 from __future__ import annotations
 

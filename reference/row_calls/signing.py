@@ -1,4 +1,4 @@
-"""Calls of keys, chains and logs (docs/ROWS.md)."""
+"""Calls of keys, chains and logs (crates/docs/ROWS.md)."""
 
 from __future__ import annotations
 

@@ -1,4 +1,4 @@
-"""Calls of values and texts (docs/ROWS.md)."""
+"""Calls of values and texts (crates/docs/ROWS.md)."""
 
 from __future__ import annotations
 

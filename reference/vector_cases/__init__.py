@@ -1,1 +1,1 @@
-"""The vectors of docs/ROWS.md, a module for each kind of input."""
+"""The vectors of crates/docs/ROWS.md, a module for each kind of input."""

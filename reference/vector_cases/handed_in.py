@@ -39,7 +39,7 @@ def bundle_faults() -> Iterable[Tuple[str, bytes]]:
                 ("diameter 0", with_byte(one, 7, 0)),
                 ("17 rounds", one[:6] + b"\x08\x09" + one[8:]), ("one order", with_byte(one, 8, 1)),
                 ("choice 2", with_byte(one, 9, 2)), ("an edge to himself", with_byte(one, 12, 0))]
-    yield from [("general 2 of two is held for faulty", small_bundle(faulty=4)), ("half of F", one[:78]),
+    yield from [("general 2 of two is assumed faulty", small_bundle(faulty=4)), ("half of F", one[:78]),
                 ("121 walks", one[:79] + b"\x79"), ("a walk of one general", small_bundle(walks=[(0,)])),
                 ("a walk of 17", small_bundle(walks=[(0,) * 17])),
                 ("general 2 in a walk", small_bundle(walks=[(0, 2)])),
@@ -64,8 +64,8 @@ def bundle_vectors() -> Iterable[Vector]:
     good = [("nothing is shown", small_bundle()),
             ("the example of FORMATS: two exhibits of general 1", small_bundle(exhibits=shown)),
             ("the same in slot 1 of version 2", small_bundle(2, 1, exhibits=shown)),
-            ("both are held for faulty", small_bundle(faulty=3)),
-            ("general 1 is held for faulty, and so no walk is wanted", small_bundle(faulty=2, walks=[])),
+            ("both are assumed faulty", small_bundle(faulty=3)),
+            ("general 1 is assumed faulty, and so no walk is wanted", small_bundle(faulty=2, walks=[])),
             ("no walk", small_bundle(walks=[])),
             ("a walk that is too long joins nobody", small_bundle(walks=[(0, 1, 0, 1)])),
             ("64 exhibits", small_bundle(exhibits=[(0, b"")] * 64))]

@@ -29,7 +29,7 @@ class Example:
 
     def other(self, *changes: Tuple[int, int, bytes], faulty: Optional[int] = None,
               walks: bytes = b"") -> List[Piece]:
-        """The bundle with other ranges, and with others held for faulty and other walks."""
+        """The bundle with other ranges, and with others assumed faulty and other walks."""
         held = [] if faulty is None else [(self.front, self.count, faulty.to_bytes(2, "big") + walks)]
         return edited(self.name, *sorted([*held, *changes]))
 
@@ -47,14 +47,14 @@ def changed_bundles() -> Iterable[Tuple[str, List[Piece]]]:
     first, second, third = split.logs
     two = (split.count, split.count + 1, b"\2")
     yield "as it is", split.other()
-    yield "nobody is held for faulty", split.other(faulty=0, walks=ALL_WALKS)
-    yield "nobody is held for faulty, and there are no walks", split.other(faulty=0, walks=b"\0")
-    yield "two are held for faulty, more than planned", split.other(faulty=3, walks=b"\0")
-    yield "all are held for faulty", split.other(faulty=7, walks=b"\0")
-    yield "general 2 is held for faulty", split.other(faulty=4, walks=b"\1\2\0\1")
-    yield "a walk through who is held for faulty", split.other(faulty=1, walks=b"\1\3\1\0\2")
+    yield "nobody is assumed faulty", split.other(faulty=0, walks=ALL_WALKS)
+    yield "nobody is assumed faulty, and there are no walks", split.other(faulty=0, walks=b"\0")
+    yield "two are assumed faulty, more than planned", split.other(faulty=3, walks=b"\0")
+    yield "all are assumed faulty", split.other(faulty=7, walks=b"\0")
+    yield "general 2 is assumed faulty", split.other(faulty=4, walks=b"\1\2\0\1")
+    yield "a walk through who is assumed faulty", split.other(faulty=1, walks=b"\1\3\1\0\2")
     yield "general 1's log is missing", split.other(two, (*second, b""))
-    yield "general 0's log is missing, and general 1 is held for faulty", split.other(
+    yield "general 0's log is missing, and general 1 is assumed faulty", split.other(
         two, (*first, b""), faulty=2, walks=b"\1\2\0\2")
     yield "general 1's log is shown twice", split_twice(split)
     yield "general 1's log as general 2's", split.other((third[0], third[1], b"\2\0\0\0\0"))

@@ -87,10 +87,10 @@ def part_vectors() -> Iterable[Vector]:
     logs = dict(zip(("A", "B", "C"), LOGS))
     yield bundled("the parts of examples/split.bundle", "--faulty 0 HEADER 0=A 1=B 2=C", **logs)
     yield bundled("the logs in another order", "HEADER 2=C 0=A 1=B --faulty=0", **logs)
-    yield bundled("nobody is held for faulty", "--faulty none HEADER 0=A 1=B 2=C", **logs)
+    yield bundled("nobody is assumed faulty", "--faulty none HEADER 0=A 1=B 2=C", **logs)
     yield bundled("no list", "HEADER 0=A 1=B 2=C", **logs)
     yield bundled("two logs of one general, in the order of the words", "HEADER 1=B 0=C 1=A", **logs)
-    yield bundled("no logs, and all are held for faulty", "--faulty 2,0,1 HEADER")
+    yield bundled("no logs, and all are assumed faulty", "--faulty 2,0,1 HEADER")
     yield bundled("bytes that are no log", "HEADER 1=A", A="00")
     line = [{"words": ["header"], "text": text_of(header_lines(3, [(0, 1), (1, 2)]))}]
     yield bundled("a line of three without the middle, whose ends no walk joins", "--faulty 1 HEADER", line)

@@ -207,7 +207,7 @@ def walk_vectors() -> Iterable[Vector]:
     cases: List[Tuple[str, int, List[Tuple[int, int]], int, List[int]]] = [
         ("neighbours", 3, TRIANGLE, 1, []), ("a line", 3, LINE, 2, []),
         ("a line whose ends are too far apart: none", 3, LINE, 1, []),
-        ("the middle of a line is held for faulty: none", 3, LINE, 2, [1]),
+        ("the middle of a line is assumed faulty: none", 3, LINE, 2, [1]),
         ("a ring of five", 5, RING, 2, []),
         ("a ring of five without one: the long way", 5, RING, 3, [2]),
         ("the lesser of two shortest walks", 4, [(0, 2), (0, 1), (1, 3), (2, 3)], 2, []),

@@ -1,4 +1,4 @@
--- Generals that are held for faulty, as a text spells them.
+-- Generals that are assumed faulty, as a text spells them.
 use Rattle.std.specs.Prelude.{ℕ, ◌==◌, Bool, false, List, [], codes, filter, length, Option, Some, None, if◌then◌else◌}
 use Rattle.std.specs.List.{list_any, range_with_len}
 use Rattle.std.specs.Str.{bytes_eq}

@@ -8,6 +8,6 @@ use crate::faulty::Faulty;
 pub struct Asked {
     /// The runs that it must be of.
     pub runs: AskedRuns,
-    /// Which generals are held for faulty.
+    /// Which generals are assumed faulty.
     pub faulty: Faulty,
 }

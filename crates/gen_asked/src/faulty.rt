@@ -1,4 +1,4 @@
-//! The generals that are held for faulty, as they are asked for.
+//! The generals that are assumed faulty, as they are asked for.
 ghost use Rattle.std.specs.Prelude.{◌≡◌, IfOk, map};
 ghost use Rattle.std.specs.List.{list_any};
 ghost use Rattle.gen_asked.specs.Faulty.{generals_named, names_general, set_named};
@@ -10,7 +10,7 @@ use std::alloc::{AllocError, Global};
 /// The text for nobody.
 const NOBODY: &[u8] = b"none";
 
-/// Which generals are held for faulty.
+/// Which generals are assumed faulty.
 #[derive(Clone, Copy, Debug, PartialEq, Eq)]
 pub enum Faulty {
     /// In each bundle those that it lists.

@@ -42,7 +42,7 @@ pub enum Job {
     Audit {
         /// How many workers read and verify its logs.
         workers: WorkerCount,
-        /// The runs that it must be of, and who is held for faulty.
+        /// The runs that it must be of, and who is assumed faulty.
         asked: Asked,
         /// Whether `explained` and equal roots count as a no.
         strict: bool,
@@ -53,7 +53,7 @@ pub enum Job {
     Draw {
         /// How many workers read and verify its logs.
         workers: WorkerCount,
-        /// The runs that it must be of, and who is held for faulty.
+        /// The runs that it must be of, and who is assumed faulty.
         asked: Asked,
     },
     /// Reads a bundle or a campaign, and writes the evidence that it holds against a general.

@@ -1,4 +1,4 @@
-//! What is asked for: a job with its numbers, the runs that its input must be of, who is held for faulty, and the form of
+//! What is asked for: a job with its numbers, the runs that its input must be of, who is assumed faulty, and the form of
 //! the answer.
 //!
 //! `read_run_ids` and `read_faulty` read the words for runs and for generals. `gen_words` reads a job from the words of a

@@ -22,7 +22,7 @@ use Rattle.gen_audit.specs.WorldBundle.{AreWalksOfRun, LogsMakeBundle, WorldIsBu
 use Rattle.gen_audit.proofs.BundleParts.{below_told, checks_told, exhibits_pass, walks_pass}
 use Rattle.gen_audit.proofs.WalkParts.{best_are_listed}
 
--- ---- who is held for faulty
+-- ---- who is assumed faulty
 
 pub are_members : (s : Scenario) → IsScenario s → AreMembers s.net.generals (scripted s.scripts)
 are_members s ok = record { ascending = scripted_up s ok; below = scripted_below s ok }

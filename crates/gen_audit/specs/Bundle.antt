@@ -13,7 +13,7 @@ use Rattle.gen_log.specs.Writing.{LogBytes}
 use Rattle.gen_match.specs.Matching.{Logs}
 use Rattle.gen_audit.specs.BundleParts.{AreMembers, AreListedWalks, AreExhibits}
 
--- a header, the generals that are held for faulty, walks between the other generals, and exhibits
+-- a header, the generals that are assumed faulty, walks between the other generals, and exhibits
 pub record Bundle : Type 0 where
   pub header : RunHeader
   pub faulty : List ℕ

@@ -1,4 +1,4 @@
--- The parts of a bundle: the generals that are held for faulty, walks, and exhibits.
+-- The parts of a bundle: the generals that are assumed faulty, walks, and exhibits.
 use Rattle.std.specs.Prelude.{ℕ, ◌<◌, ◌≤◌, ◌^◌, ◌-◌, List, length, All, AllPairs, slice_index_or}
 use Rattle.gen_net.specs.Network.{IsBefore}
 use Rattle.gen_log.specs.Fields.{AreBelow}

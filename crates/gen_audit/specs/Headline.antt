@@ -16,7 +16,7 @@ IsYes (No findings) = ⊥
 pub record Headline (b : Bundle) (verdict : Verdict) : Type 0 where
   -- the verdict is a yes if and only if the bundle supports it
   pub exactly : IsYes verdict ↔ IsSupported b
-  -- If the bundle supports a yes and at most m generals are held for faulty, the verdict is the one order
+  -- If the bundle supports a yes and at most m generals are assumed faulty, the verdict is the one order
   -- that all of the rest decided. It is the commander's if the commander is of the rest.
   pub agreed : IsSupported b → HasFew b → (order : ℕ) × (verdict ≡ Agreed order) × AgreeOn b order
 

@@ -70,10 +70,10 @@ SupportedIsClean = (b : Bundle) → IsSupported b → IsClean b
 abbrev pub AgreeOn : Bundle → ℕ → Type 0
 AgreeOn b order = AgreesOn b.header.network b.faulty (logs_of b) order
 
--- at most m generals are held for faulty
+-- at most m generals are assumed faulty
 abbrev pub HasFew : Bundle → Type 0
 HasFew b = length b.faulty ≤ b.header.network.traitors
 
--- if at most m generals are held for faulty, the logs of a bundle in which nothing is found agree on an order
+-- if at most m generals are assumed faulty, the logs of a bundle in which nothing is found agree on an order
 abbrev pub CleanAgrees : Type 0
 CleanAgrees = (b : Bundle) → IsBundle b → IsClean b → HasFew b → (order : ℕ) × AgreeOn b order

@@ -21,7 +21,7 @@ pub record AreDecisions (b : Bundle) (decisions : List Decision) : Type 0 where
   pub members : (d : Decision) → Contains decisions d ↔ IsDecision b d
 
 -- The verdict is the bundle's. It is a no with all findings, if there are any. Otherwise it is the order on
--- which the rest agree if at most m generals are held for faulty, or else what each of the rest decided.
+-- which the rest agree if at most m generals are assumed faulty, or else what each of the rest decided.
 abbrev pub IsVerdict : Bundle → Verdict → Type 0
 IsVerdict b (Agreed order) = IsClean b × HasFew b × AgreeOn b order
 IsVerdict b (Explained decisions) =

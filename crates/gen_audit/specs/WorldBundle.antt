@@ -19,12 +19,12 @@ use Rattle.gen_audit.specs.Verdict.{IsVerdict}
 use Rattle.gen_audit.specs.Headline.{IsYes}
 
 -- the bundle with the sealed logs of all generals, in the order of the generals, a second log after the
--- first; with any generals held for faulty and any walks
+-- first; with any generals assumed faulty and any walks
 abbrev pub run_bundle : Scenario → List ℕ → List (List ℕ) → Bundle
 run_bundle s faulty walks =
     record { header = header_of s; faulty = faulty; walks = walks; exhibits = logs_of_all s }
 
--- the bundle of the run in which the generals that have scripts are held for faulty
+-- the bundle of the run in which the generals that have scripts are assumed faulty
 abbrev pub bundle_of : Scenario → List (List ℕ) → Bundle
 bundle_of s walks = run_bundle s (scripted s.scripts) walks
 
@@ -40,7 +40,7 @@ pub record HasWalks (s : Scenario) (walks : List (List ℕ)) : Type 0 where
   pub of_rest : IsListOf rest (IsLoyal s.net (scripted s.scripts))
   pub walks_are : AreWalksOfRun s.net rest walks
 
--- the logs of the run make a bundle with any generals below n held for faulty and any walks that a bundle can
+-- the logs of the run make a bundle with any generals below n assumed faulty and any walks that a bundle can
 -- have
 abbrev pub LogsMakeBundle : Type 0
 LogsMakeBundle =

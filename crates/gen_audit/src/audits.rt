@@ -153,10 +153,11 @@ pub fn judge_reports(
 /// Returns the judgement on a bundle: the verdict, and the evidence that its exhibits hold. The result doesn't depend
 /// on the number of workers.
 ///
-/// Piece i is exhibit i, counted from 0. Of W workers, worker w takes the pieces w, w + W, w + 2W and so on. It reads
-/// each log, verifies its signatures and hashes its links. The first worker runs in the calling thread, each other
-/// worker in a thread of its own; one worker alone starts no thread. The gate is called for each piece by the worker
-/// that takes it. A worker calls the gate for up to `LANES` of its pieces in a row before it works on them.
+/// Piece i is exhibit i, counted from 0. Each worker takes pieces that follow one another, whole groups of `LANES`, and the
+/// last worker what is left. So no more workers run than there are such groups. A worker reads each log, verifies its
+/// signatures and hashes its links. The first worker runs in the calling thread, each other worker in a thread of its own;
+/// one worker alone starts no thread. The gate is called for each piece by the worker that takes it. A worker calls the gate
+/// for up to `LANES` of its pieces in a row before it works on them.
 ///
 /// # Errors
 ///
@@ -170,12 +171,12 @@ pub fn audit<R: Threads + Wait + Sync, G: JobGate + Sync>(
     gate: &G,
 ) -> Result<Judgement, AuditFault>
     // The verdict is the bundle's. It is a no with exactly the findings, if there are any. Otherwise it is the order on
-    // which the rest agree if at most m generals are held for faulty, or else what each of the rest decided.
+    // which the rest agree if at most m generals are assumed faulty, or else what each of the rest decided.
     ensures verdict { IfOk result (λ judgement. IsVerdict bundle.now judgement.verdict) }
     // The verdict is a yes if and only if the bundle supports one (its field `exactly`). It supports one if all of this
     // is so. At least one general is of the rest, each of the rest has one log, and it verifies. The walks bound the
     // diameter of the rest. In one run, in which no signature of the rest is forged, all of the rest follow and keep
-    // exactly these logs. If at most m generals are held for faulty, such a bundle's verdict is the one order that all
+    // exactly these logs. If at most m generals are assumed faulty, such a bundle's verdict is the one order that all
     // of the rest decided. It is the commander's order if the commander is of the rest (its field `agreed`).
     ensures headline { IfOk result (λ judgement. Headline bundle.now judgement.verdict) }
     // Exactly the generals with a first claim against them are convicted, each by that claim.

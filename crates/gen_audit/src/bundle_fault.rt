@@ -17,7 +17,7 @@ pub enum BundleFault {
     /// The header breaks this rule. It is also `H10` if the header's version is not that of the mark.
     #[error("B3 {0}")]
     BadHeader(HeaderFault),
-    /// A general that is held for faulty is n or more.
+    /// A general that is assumed faulty is n or more.
     #[error("B4")]
     FaultyRange,
     /// There are more than 120 walks, or a walk does not have 2 to 16 generals.

@@ -215,7 +215,7 @@ pub fn read_taken_bundle(alloc: Global, input: Vec<u8>) -> Result<Bundle, ReadEr
 }
 
 /// Returns the bundle that all the bytes are. The bytes begin with `SMB1` and a header of version 1, or with `SMB2` and
-/// a header of version 2. After the header stand the generals that are held for faulty: a number of two bytes,
+/// a header of version 2. After the header stand the generals that are assumed faulty: a number of two bytes,
 /// big-endian, in which general v has the value 2^v.
 ///
 /// Then come the number of walks, and for each walk the number of its generals and the generals. Then come the number

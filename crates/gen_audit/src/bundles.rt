@@ -17,7 +17,7 @@ pub const BUNDLE_MARKS: Marks = Marks {
     two: 0x534d_4232,
 };
 
-/// The input of an audit: a header, the generals that are held for faulty, walks between the other generals, which are
+/// The input of an audit: a header, the generals that are assumed faulty, walks between the other generals, which are
 /// the rest, and exhibits. A contract sees these four as one record.
 #[derive(Drop)]
 pub struct Bundle {
@@ -48,7 +48,7 @@ impl Model for Bundle {
 }
 
 impl Bundle {
-    /// Returns the bundle of a header, the generals that are held for faulty, walks and exhibits. It takes no memory.
+    /// Returns the bundle of a header, the generals that are assumed faulty, walks and exhibits. It takes no memory.
     ///
     /// # Errors
     ///
@@ -85,7 +85,7 @@ impl Bundle {
         &self.header
     }
 
-    /// Returns the generals that are held for faulty.
+    /// Returns the generals that are assumed faulty.
     pub fn faulty(&self) -> &GeneralSet
         ensures { result.now ≡ self.now.faulty }
     {

@@ -1,43 +1,40 @@
-//! Deals pieces to workers.
-ghost use Rattle.std.specs.Prelude.{◌≡◌, ◌++◌, IfOk, OnOk};
-ghost use Rattle.gen_audit.specs.Loops.Dealing.{dealt, gets, turn_after};
+//! Deals exhibits to workers.
+ghost use Rattle.std.specs.Prelude.{◌≡◌, ◌<◌, ◌≤◌, ◌*◌, IfOk, map, vec_len};
+ghost use Rattle.gen_audit.specs.Loops.Dealing.{all_of};
 
+use crate::counts::WorkerCount;
 use gen_local::Exhibit;
+use sha_lanes::LANES;
 use std::alloc::{AllocError, Global};
 
-/// Appends an exhibit to a worker's pieces if `turn` is 0. `turn` is the number of workers whose turn comes first, and
-/// the result is that number after this exhibit. There are `last` + 1 workers.
-fn deal(
-    exhibit: &Exhibit,
-    last: usize,
-    turn: usize,
-    pieces: &mut Vec<Exhibit>,
-) -> Result<usize, AllocError>
-    ensures turn { IfOk result (λ next. next ≡ turn_after last turn) }
-    ensures pieces { OnOk result (pieces.new.items ≡ pieces.old.items ++ gets turn exhibit.now) }
+/// Returns how many of so many exhibits each worker takes: whole groups of `LANES`. The last worker may find fewer.
+fn share_size(exhibits: usize, workers: WorkerCount) -> usize
+    ensures some { 0 < result }
+    ensures all { exhibits ≤ workers * result }
 {
-    if turn > 0 {
-        return Ok(turn - 1);
-    }
-    pieces.push(exhibit.share()?)?;
-    Ok(last)
+    let groups = exhibits.div_ceil(LANES);
+    let each = groups.div_ceil(workers.get()).max(1);
+    each.saturating_mul(LANES)
 }
 
-/// Returns the exhibits that a worker takes, in their order. Their bytes are not copied.
-pub(crate) fn pieces_of(
+/// Returns the shares of the workers, in the order of the exhibits. There are no more than so many workers, and each but
+/// the last has whole groups of `LANES` exhibits, since fewer side by side take as long. So there are no more workers
+/// than such groups.
+pub(crate) fn shares_of<'a>(
     alloc: Global,
-    exhibits: &[Exhibit],
-    last: usize,
-    worker: usize,
-) -> Result<Vec<Exhibit>, AllocError>
-    ensures { IfOk result (λ pieces. pieces.items ≡ dealt last worker exhibits.now) }
+    exhibits: &'a [Exhibit],
+    workers: WorkerCount,
+) -> Result<Vec<&'a [Exhibit]>, AllocError>
+    ensures all { IfOk result (λ shares. all_of (map (λ share. share.now) shares.items) ≡ exhibits.now) }
+    ensures few { IfOk result (λ shares. vec_len shares ≤ workers) }
 {
-    let mut pieces = Vec::new(alloc);
-    let mut turn = worker;
+    let size = share_size(exhibits.len(), workers);
+    let mut shares = Vec::new(alloc);
     let mut rest = exhibits;
-    'exhibits: while let Some((exhibit, others)) = rest.split_first() {
-        turn = deal(exhibit, last, turn, &mut pieces)?;
+    'shares: while !rest.is_empty() {
+        let (share, others) = rest.split_at(rest.len().min(size));
+        shares.push(share)?;
         rest = others;
     }
-    Ok(pieces)
+    Ok(shares)
 }

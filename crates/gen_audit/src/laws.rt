@@ -71,7 +71,7 @@ pub fn reports_tell_logs()
 {}
 
 /// States that the bundle of a scenario's own run supports a yes (`supported`), and that its verdict is a yes
-/// (`accepted`). The generals with scripts are held for faulty. This holds if no script has a raw line, at least one
+/// (`accepted`). The generals with scripts are assumed faulty. This holds if no script has a raw line, at least one
 /// general has no script, and the walks bound the diameter of the generals without one.
 ///
 /// The bundle shows the sealed logs of the run, whether `run_world` made them or a machine by any order of acts. They

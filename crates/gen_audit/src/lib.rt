@@ -1,6 +1,6 @@
 //! The auditor: whether one run of the signed message algorithm explains the logs of a bundle.
 //!
-//! A bundle has a header, the generals that are held for faulty, walks between the other generals, which are the rest,
+//! A bundle has a header, the generals that are assumed faulty, walks between the other generals, which are the rest,
 //! and exhibits. The audit never makes a run. It looks at each log of the rest alone, at each two of them, and at the
 //! chains that the rest received from the faulty. If nothing is found, a run that explains the logs exists (`laws`).
 //!
@@ -14,7 +14,7 @@
 //! 4 and 5 of L. Lamport, R. Shostak and M. Pease, "The Byzantine Generals Problem", ACM TOPLAS 4, 1982. If at most m
 //! generals are faulty, the rest then decided alike.
 //!
-//! What a yes doesn't promise: that the generals that are held for faulty are the traitors, or all of them. No call
+//! What a yes doesn't promise: that the generals that are assumed faulty are the traitors, or all of them. No call
 //! promises that the workers run at once, or at all.
 #![tactic(auto)]
 

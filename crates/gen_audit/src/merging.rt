@@ -1,6 +1,7 @@
-//! Merges the reports of all workers.
-ghost use Rattle.std.specs.Prelude.{IfOk};
+//! Joins the reports of all workers.
+ghost use Rattle.std.specs.Prelude.{IfOk, map};
 ghost use Rattle.gen_local.specs.Report.{AreReportsOf};
+ghost use Rattle.gen_audit.specs.Loops.Dealing.{all_of};
 ghost use Rattle.gen_audit.specs.Loops.Hands.{AreHands};
 
 use crate::hands::Hand;
@@ -8,27 +9,21 @@ use gen_local::{Exhibit, LocalReport};
 use gen_net::Header;
 use std::alloc::{AllocError, Global};
 
-/// Returns the reports of all hands, in the order of the exhibits. The first report of the first hand goes to the end of
-/// the reports, and this hand behind the other hands, and so on.
-pub(crate) fn merged(
+/// Returns the reports of all hands, in the order of the exhibits.
+pub(crate) fn joined(
     alloc: Global,
     header: &Header,
-    exhibits: &[Exhibit],
-    last: usize,
+    shares: &[&[Exhibit]],
     hands: Vec<Hand>,
 ) -> Result<Vec<LocalReport>, AllocError>
-    requires { AreHands header.now exhibits.now last hands.items }
-    ensures { IfOk result (λ reports. AreReportsOf header.now exhibits.now reports.items) }
+    requires { AreHands header.now (map (λ share. share.now) shares.now) hands.items }
+    ensures { IfOk result (λ reports.
+        AreReportsOf header.now (all_of (map (λ share. share.now) shares.now)) reports.items) }
 {
-    let mut hands = hands;
-    let mut reports = Vec::with_capacity(alloc, exhibits.len())?;
-    let mut rest = exhibits;
-    'rounds: while let Some((_, others)) = rest.split_first() {
-        let mut hand = hands.remove(0);
-        let report = hand.reports.remove(0);
-        reports.push(report)?;
-        hands.push(hand)?;
-        rest = others;
+    let mut reports = Vec::new(alloc);
+    for hand in hands {
+        let mut more = hand.reports;
+        reports.append(&mut more)?;
     }
     Ok(reports)
 }

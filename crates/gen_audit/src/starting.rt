@@ -1,9 +1,10 @@
 //! Starts and joins the workers' threads.
-ghost use Rattle.std.specs.Prelude.{◌≡◌, ◌<◌, ◌≤◌, ◌+◌, ◌++◌, ◌∷◌, [], IfErr, IfOk, IfSome, MatchBool, MatchOption, false, suc, true, vec_len, vec_capacity};
+ghost use Rattle.std.specs.Prelude.{◌≡◌, ◌<◌, ◌≤◌, ◌+◌, ◌++◌, ◌∷◌, [], IfErr, IfOk, IfSome, MatchBool, MatchOption, false, length, map, vec_len, vec_capacity};
 ghost use Rattle.gen_local.specs.Report.{AreReportsOf};
 ghost use Rattle.gen_audit.specs.Faults.{IsFaultBy};
+ghost use Rattle.gen_audit.specs.Loops.Dealing.{share_at};
 ghost use Rattle.gen_audit.specs.Loops.Ended.{ended_as};
-ghost use Rattle.gen_audit.specs.Loops.Hands.{AreOfWorker, AreHands};
+ghost use Rattle.gen_audit.specs.Loops.Hands.{AreHands};
 ghost use Rattle.gen_audit.specs.Loops.Started.{AreJoined, ArePromised, IsPromise};
 
 use crate::faults::AuditFault;
@@ -21,18 +22,17 @@ use std::thread::{PromisedHandle, Scope, Threads};
 /// The handles of workers' threads.
 pub(crate) type Handles<'s> = Vec<PromisedHandle<Option<Hand>, ReportsAs<'s>>>;
 
-/// Returns the hand of one worker, or None if memory is refused.
+/// Returns the hand of one worker, or None if memory is refused. `first` is the number of its first piece.
 fn hand_of<S: JobGate + Exchange>(
     alloc: Global,
     shop: &S,
     header: &Header,
-    exhibits: &[Exhibit],
-    last: usize,
-    worker: usize,
+    share: &[Exhibit],
+    first: usize,
 ) -> Option<Hand>
-    ensures { IfSome result (λ hand. AreOfWorker header.now exhibits.now last worker hand.reports.items) }
+    ensures { IfSome result (λ hand. AreReportsOf header.now share.now hand.reports.items) }
 {
-    match work(alloc, shop, header, exhibits, last, worker) {
+    match work(alloc, shop, header, share, first) {
         Ok(reports) => Some(Hand { reports }),
         Err(AllocError) => None,
     }
@@ -45,24 +45,18 @@ fn start_one<'s, E, R: Threads + Wait + Sync, S: JobGate + Exchange + Sync>(
     shop: &'s S,
     scope: &Scope<'s, E>,
     header: &'s Header,
-    exhibits: &'s [Exhibit],
-    last: usize,
-    worker: usize,
+    share: &'s [Exhibit],
+    first: usize,
 ) -> Option<PromisedHandle<Option<Hand>, ReportsAs<'s>>>
-    ensures { IfSome result (λ handle. IsPromise header.now exhibits.now last worker handle.promise) }
+    ensures { IfSome result (λ handle. IsPromise header.now share.now handle.promise) }
 {
     let _ = rt;
-    let promise = ReportsAs {
-        header,
-        exhibits,
-        last,
-        worker,
-    };
+    let promise = ReportsAs { header, share };
     match scope.spawn_with(
         promise,
         move || -> Option<Hand>
-            ensures { IfSome result (λ hand. AreOfWorker header.entry.now exhibits.entry.now last worker hand.reports.items) }
-        { hand_of(alloc, shop, header, exhibits, last, worker) },
+            ensures { IfSome result (λ hand. AreReportsOf header.entry.now share.entry.now hand.reports.items) }
+        { hand_of(alloc, shop, header, share, first) },
     ) {
         Ok(handle) => Some(handle),
         Err(_refused) => None,
@@ -77,20 +71,24 @@ fn start_all<'s, E, R: Threads + Wait + Sync, S: JobGate + Exchange + Sync>(
     shop: &'s S,
     scope: &Scope<'s, E>,
     header: &'s Header,
-    exhibits: &'s [Exhibit],
-    last: usize,
+    shares: &'s [&'s [Exhibit]],
     handles: &mut Handles<'s>,
 ) -> bool
+    requires some { 0 < length shares.now }
     requires empty { handles.old.items ≡ [] }
-    requires room { last ≤ vec_capacity handles.old }
-    ensures promised { ArePromised header.now exhibits.now last handles.new.items }
-    ensures count { MatchBool result (vec_len handles.new ≡ last) (vec_len handles.new < last) }
+    requires room { length shares.now ≤ 1 + vec_capacity handles.old }
+    ensures promised { ArePromised header.now (map (λ share. share.now) shares.now) handles.new.items }
+    ensures count { MatchBool result (1 + vec_len handles.new ≡ length shares.now)
+        (1 + vec_len handles.new < length shares.now) }
 {
-    for before in 0..last {
-        match start_one(rt, alloc, shop, scope, header, exhibits, last, before + 1) {
+    let mut first = shares[0].len();
+    for before in 0..shares.len() - 1 {
+        let share = shares[before + 1];
+        match start_one(rt, alloc, shop, scope, header, share, first) {
             Some(handle) => handles.push_reserved(handle),
             None => return false,
         }
+        first = first.saturating_add(share.len());
     }
     true
 }
@@ -115,17 +113,17 @@ fn add_hand(all: bool, hand: Option<Hand>, hands: &mut Vec<Hand>) -> bool
 fn join_all<'s, R: Threads>(
     rt: &R,
     header: &Header,
-    exhibits: &[Exhibit],
-    last: usize,
+    shares: &[&[Exhibit]],
     first: Option<Hand>,
     handles: Handles<'s>,
     hands: &mut Vec<Hand>,
 ) -> bool
-    requires first { IfSome first (λ hand. AreOfWorker header.now exhibits.now last 0 hand.reports.items) }
-    requires promised { ArePromised header.now exhibits.now last handles.items }
+    requires first { IfSome first (λ hand.
+        AreReportsOf header.now (share_at (map (λ share. share.now) shares.now) 0) hand.reports.items) }
+    requires promised { ArePromised header.now (map (λ share. share.now) shares.now) handles.items }
     requires empty { hands.old.items ≡ [] }
     requires room { vec_len handles < vec_capacity hands.old }
-    ensures { AreJoined header.now exhibits.now last (1 + vec_len handles.entry) result hands.new.items }
+    ensures { AreJoined header.now (map (λ share. share.now) shares.now) (1 + vec_len handles.entry) result hands.new.items }
 {
     let mut all = add_hand(true, first, hands);
     for handle in handles {
@@ -148,7 +146,7 @@ fn ended(hands: Vec<Hand>, complete: bool, started: bool) -> Result<Vec<Hand>, A
     Ok(hands)
 }
 
-/// Runs all workers, the first in this thread, and returns their hands.
+/// Runs a worker for each share, the first in this thread, and returns their hands.
 ///
 /// # Errors
 ///
@@ -160,19 +158,19 @@ pub(crate) fn run_within<'s, E, R: Threads + Wait + Sync, S: JobGate + Exchange 
     shop: &'s S,
     scope: &Scope<'s, E>,
     header: &'s Header,
-    exhibits: &'s [Exhibit],
-    last: usize,
+    shares: &'s [&'s [Exhibit]],
     hands: Vec<Hand>,
 ) -> Result<Vec<Hand>, AuditFault>
+    requires some { 0 < length shares.now }
     requires empty { hands.items ≡ [] }
-    requires room { last < vec_capacity hands }
-    ensures hands { IfOk result (λ all. AreHands header.entry.now exhibits.entry.now last all.items) }
-    ensures fault { IfErr result (IsFaultBy (suc last)) }
+    requires room { length shares.now ≤ vec_capacity hands }
+    ensures hands { IfOk result (λ all. AreHands header.entry.now (map (λ share. share.now) shares.entry.now) all.items) }
+    ensures fault { IfErr result (IsFaultBy (length shares.entry.now)) }
 {
-    let mut handles = Vec::with_capacity(alloc, last)?;
+    let mut handles = Vec::with_capacity(alloc, shares.len() - 1)?;
     let mut hands = hands;
-    let started = start_all(rt, alloc, shop, scope, header, exhibits, last, &mut handles);
-    let first = hand_of(alloc, shop, header, exhibits, last, 0);
-    let complete = join_all(rt, header, exhibits, last, first, handles, &mut hands);
+    let started = start_all(rt, alloc, shop, scope, header, shares, &mut handles);
+    let first = hand_of(alloc, shop, header, shares[0], 0);
+    let complete = join_all(rt, header, shares, first, handles, &mut hands);
     ended(hands, complete, started)
 }

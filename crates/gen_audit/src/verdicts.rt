@@ -73,9 +73,9 @@ impl Findings {
 /// The verdict on a bundle.
 #[derive(Debug, Drop)]
 pub enum Verdict {
-    /// Yes, and at most m generals are held for faulty: all of the rest decided this order.
+    /// Yes, and at most m generals are assumed faulty: all of the rest decided this order.
     Agreed(OrderNo),
-    /// Yes, and more than m are held for faulty: so each of the rest decided.
+    /// Yes, and more than m are assumed faulty: so each of the rest decided.
     Explained(Decisions),
     /// No: this is found.
     No(Findings),
@@ -99,6 +99,6 @@ pub struct Judgement {
     /// The verdict.
     pub verdict: Verdict,
     /// The first contradiction of each general that the exhibits hold one of, in ascending order of generals. These may
-    /// be generals that are held for faulty and others.
+    /// be generals that are assumed faulty and others.
     pub convictions: Vec<Evidence>,
 }

@@ -185,6 +185,27 @@ fn campaign_of(
     campaign_alone(alloc, input, bytes)
 }
 
+/// Reads a campaign as `read_campaign` does, but from bytes that it shares and does not copy, as the
+/// exhibits of all runs do.
+///
+/// # Errors
+///
+/// Those of `read_campaign`.
+pub fn read_shared_campaign(
+    alloc: Global,
+    input: &ArcSlice<u8>,
+) -> Result<CampaignBundle, ReadError<CampaignFault>>
+    // What is returned is a campaign, and the bytes are its spelling.
+    ensures found { IfOk result (Spells IsCampaign campaign_spelling (arc_slice_items input.now)) }
+    // If the bytes spell a campaign, this campaign is returned, unless memory runs out.
+    ensures only { (c : Told) → Spells IsCampaign campaign_spelling (arc_slice_items input.now) c
+        → IsRead result (Ok c) }
+    // The campaign or the fault is that of the definition, unless memory runs out.
+    ensures exact { IsRead result (reading.whole_campaign (arc_slice_items input.now)) }
+{
+    campaign_of(alloc, input, input.as_slice())
+}
+
 /// Reads a campaign as `read_campaign` does, but the bytes are taken and not copied: the exhibits of all
 /// runs share them.
 ///
@@ -202,8 +223,7 @@ pub fn read_taken_campaign(
     // The campaign or the fault is that of the definition, unless memory runs out.
     ensures exact { IsRead result (reading.whole_campaign input.items) }
 {
-    let input = ArcSlice::from_vec(input)?;
-    campaign_of(alloc, &input, input.as_slice())
+    read_shared_campaign(alloc, &ArcSlice::from_vec(input)?)
 }
 
 /// Returns what the bytes show of a campaign. They are four bytes `SMC2`, one byte with the number of

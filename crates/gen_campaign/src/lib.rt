@@ -41,7 +41,7 @@ mod verdicts;
 
 pub use auditing::audit_campaign;
 pub use campaign_fault::CampaignFault;
-pub use campaign_reading::{read_campaign, read_taken_campaign};
+pub use campaign_reading::{read_campaign, read_shared_campaign, read_taken_campaign};
 pub use campaign_text::{one_campaign_text, read_campaign_text, texts_make_campaigns};
 pub use campaign_writing::{put_bundles, write_campaign};
 pub use campaigns::CampaignBundle;

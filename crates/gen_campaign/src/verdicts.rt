@@ -15,7 +15,7 @@ pub struct CampaignVerdict {
     pub judgements: Vec<Judgement>,
     /// The convictions across two runs, in ascending order of generals. Each general of which two runs
     /// show texts that contradict each other is convicted by the first two such texts, whether the general
-    /// is held for faulty or not.
+    /// is assumed faulty or not.
     pub across: Vec<Evidence>,
 }
 

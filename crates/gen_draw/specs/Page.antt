@@ -23,14 +23,14 @@ life_of grid general =
     ++ (codes " " ++ (decimal (row_of general) ++ (codes "\"/><text x=\"16\" y=\""
     ++ (decimal (name_row general) ++ (codes "\">general " ++ (decimal general ++ codes "</text>")))))))))
 
--- the line of a general; that of a general that is held for faulty is grey and says so, in its title and
+-- the line of a general; that of a general that is assumed faulty is grey and says so, in its title and
 -- below the line
 unfoldable pub general_line : Grid → Bool → ℕ → List ℕ
 general_line grid true general =
-    (codes "<g class=\"faulty\"><title>general " ++ (decimal general ++ codes " is held for faulty</title>"))
+    (codes "<g class=\"faulty\"><title>general " ++ (decimal general ++ codes " is assumed faulty</title>"))
     ++ (life_of grid general
     ++ (codes "<text x=\"16\" y=\"" ++ (decimal (note_row general)
-    ++ codes "\">held for faulty</text></g>\n")))
+    ++ codes "\">assumed faulty</text></g>\n")))
 general_line grid false general =
     (codes "<g><title>general " ++ (decimal general ++ codes "</title>"))
     ++ (life_of grid general ++ codes "</g>\n")

@@ -79,7 +79,7 @@ closing =
     codes ")\">\n" ++ (
     codes "<title>what the lines mean</title><text>dashed: only one of the two logs has the message</text>\n"
     ++ (
-    codes "<text y=\"18\" class=\"faulty\">grey: held for faulty</text>\n" ++ (
+    codes "<text y=\"18\" class=\"faulty\">grey: assumed faulty</text>\n" ++ (
     codes "<text y=\"36\" class=\"found\">red: found by the audit, or convicted</text></g>\n</svg>\n")))
 
 -- the legend of orders, the words that say what the lines mean, and the end of the text
@@ -104,14 +104,14 @@ notes h exhibits verdict convictions =
     end_lines (grid_of h.network) h.network.generals (all_decided h exhibits) convictions
     ++ note_lines h.network (findings_in verdict)
 
--- what a picture says of a header, the generals held for faulty, the shown logs, the verdict and the
+-- what a picture says of a header, the generals assumed faulty, the shown logs, the verdict and the
 -- convictions, and the end of the text
 unfoldable pub run_part : RunHeader → List ℕ → List LogBytes → Verdict → List Accusation → List ℕ
 run_part h faulty exhibits verdict convictions =
     heading h verdict ++ (frame h.network faulty ++ (story h exhibits verdict
     ++ (notes h exhibits verdict convictions ++ page_back (grid_of h.network))))
 
--- the picture of a header, the generals held for faulty, the shown logs, the verdict and the convictions: the
+-- the picture of a header, the generals assumed faulty, the shown logs, the verdict and the convictions: the
 -- beginning of the page, with its size, its style and the heads of arrows, and what the picture says
 unfoldable pub picture : RunHeader → List ℕ → List LogBytes → Verdict → List Accusation → List ℕ
 picture h faulty exhibits verdict convictions =

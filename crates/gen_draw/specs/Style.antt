@@ -2,7 +2,7 @@
 -- dark ones.
 use Rattle.std.specs.Prelude.{ℕ, List, ◌++◌, codes}
 
--- the style of lines, words and arrow heads: grey for generals that are held for faulty, red for findings
+-- the style of lines, words and arrow heads: grey for generals that are assumed faulty, red for findings
 unfoldable pub plain_style : List ℕ
 plain_style =
     codes "<style>\n" ++ (

@@ -54,7 +54,7 @@ fn push_life(out: &mut String, grid: Grid, general: u8) -> Result<(), AllocError
     )
 }
 
-/// Appends the line of a general, with a title; that of a general that is held for faulty is grey and says so.
+/// Appends the line of a general, with a title; that of a general that is assumed faulty is grey and says so.
 #[tactic(auto, unfolding(crate::specs::Page::general_line))]
 pub fn push_general(out: &mut String, grid: Grid, held: bool, general: u8) -> Result<(), AllocError>
     ensures { OnOk result
@@ -64,12 +64,12 @@ pub fn push_general(out: &mut String, grid: Grid, held: bool, general: u8) -> Re
         let below = row_of(general) + 16;
         write!(
             out,
-            "<g class=\"faulty\"><title>general {general} is held for faulty</title>"
+            "<g class=\"faulty\"><title>general {general} is assumed faulty</title>"
         )?;
         push_life(out, grid, general)?;
         write!(
             out,
-            "<text x=\"16\" y=\"{below}\">held for faulty</text></g>\n"
+            "<text x=\"16\" y=\"{below}\">assumed faulty</text></g>\n"
         )
     } else {
         write!(out, "<g><title>general {general}</title>")?;

@@ -70,7 +70,7 @@ fn push_heading(
     }
 }
 
-/// Appends the columns of rounds and the lines of generals, of which those that are held for faulty are grey.
+/// Appends the columns of rounds and the lines of generals, of which those that are assumed faulty are grey.
 #[tactic(auto, unfolding(crate::specs::Picture::frame))]
 fn push_frame(out: &mut String, net: &Net, faulty: &GeneralSet) -> Result<(), AllocError>
     ensures { OnOk result
@@ -105,7 +105,7 @@ fn push_back(out: &mut String, grid: Grid) -> Result<(), AllocError>
         "\
 <g transform=\"translate(160 {y})\">\n\
 <title>what the lines mean</title><text>dashed: only one of the two logs has the message</text>\n\
-<text y=\"18\" class=\"faulty\">grey: held for faulty</text>\n\
+<text y=\"18\" class=\"faulty\">grey: assumed faulty</text>\n\
 <text y=\"36\" class=\"found\">red: found by the audit, or convicted</text></g>\n</svg>\n"
     )
 }
@@ -163,7 +163,7 @@ pub(crate) fn push_run_part(
 
 /// Returns the picture of a bundle and of the judgement on it, as an SVG text. Each general is a line from left to
 /// right, and each round a column. Each message that a shown log has is an arrow in the colour of its order; it is
-/// dashed if only one of the logs of its sender and its receiver has it. A general that is held for faulty is grey.
+/// dashed if only one of the logs of its sender and its receiver has it. A general that is assumed faulty is grey.
 /// Each finding stands in red at its general or along its message. A general's decision stands at the end of its line,
 /// and its conviction behind that. The judgement is meant to be that of `audit` on the bundle.
 ///

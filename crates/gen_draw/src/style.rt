@@ -4,7 +4,7 @@ ghost use Rattle.gen_draw.specs.Style.{style};
 
 use std::alloc::AllocError;
 
-/// The style of lines, words and arrow heads: grey for generals that are held for faulty, red for findings.
+/// The style of lines, words and arrow heads: grey for generals that are assumed faulty, red for findings.
 const PLAIN_STYLE: &str = "\
 <style>\n\
 svg{color:#1b1b1b;font:13px sans-serif}.page{fill:#fff}text,tspan{fill:currentColor}\n\

@@ -5,8 +5,8 @@ pub const WORDS: &str = "\
 system S|system S|The admission is of the system with the id S: compare it with an id that you know.\n\
 run N nodes|run N nodes NAMES|By the admission this is run N of the system, and behind stands the node that each general is, general 0 first.\n\
 run R|run R|The run id is R, the hash of the header in the input: compare it with a run id that you know, since anybody can write a header.\n\
-agreed|verdict agreed V|Nothing is found, no more generals are held for faulty than the run is planned for, and all of the rest decided order V.\n\
-explained|verdict explained|Nothing is found, but more generals are held for faulty than the run is planned for, so the rest may have decided different orders.\n\
+agreed|verdict agreed V|Nothing is found, no more generals are assumed faulty than the run is planned for, and all of the rest decided order V.\n\
+explained|verdict explained|Nothing is found, but more generals are assumed faulty than the run is planned for, so the rest may have decided different orders.\n\
 no|verdict no|Something is found, and each line below that begins with N says what.\n\
 general G decides V|general G decides V|By the logs, general G decided order V.\n\
 across|convicted G by K1 across I J|The logs of runs I and J, counted from 0, hold two different texts under one leaf, signed with keys of general G.\n\
@@ -38,9 +38,9 @@ N5|N5 general G entry P|In the log of general G, entry P, counted from 0, is the
 N6|N6 general G|In the log of general G, the signature of the head does not verify.\n\
 N7|N7 general G entry P|With entry P, counted from 0, the log of general G first begins no log that a follower of the algorithm could keep.\n\
 N8|N8 from A to B round L order V|Only one of the logs of generals A and B has the message of order V that A sent B in round L, or they have it with different paths.\n\
-N9|N9 from A to B round L order V|What general B received with order V in round L from general A, which is held for faulty, derives from nothing that the rest sent the faulty.\n\
+N9|N9 from A to B round L order V|What general B received with order V in round L from general A, which is assumed faulty, derives from nothing that the rest sent the faulty.\n\
 N10|N10 pair A B|No walk of the bundle joins generals A and B by few enough edges of the rest, and no lesser pair is so; if there are no walks, see parted in the verdict as JSON.\n\
-N11|N11|Nobody is of the rest, since all generals are held for faulty, and nothing else is found.\n\
+N11|N11|Nobody is of the rest, since all generals are assumed faulty, and nothing else is found.\n\
 G2|fault G2 generals A B|Generals A and B have the same root, and no lesser pair has: whoever has its keys is counted twice.\n\
 A10|fault A10 node G|The file of roots of node G is not that of its identity in the system.\n\
 fault|fault NAMES|The input has a fault, the first in the order in which it is read.\n\
@@ -81,7 +81,7 @@ R1|R1|The input is not of the runs that --run names, in their order.\n\
 B1|B1|The input ends before the bundle does.\n\
 B2|B2|The first four bytes are neither SMB1 nor SMB2; in a campaign, they are not SMB2. A line behind the fault says what the file is, if its first bytes tell.\n\
 B3|B3|The header of the bundle has a fault, which follows.\n\
-B4|B4|A general is held for faulty that is none of the network.\n\
+B4|B4|A general is assumed faulty that is none of the network.\n\
 B5|B5|There are more than 120 walks, or a walk has not 2 to 16 generals.\n\
 B6|B6|A walk has a number that is no general, does not begin below its last general, or does not stand behind the walk before it.\n\
 B7|B7|There are more than 64 exhibits, or an exhibit is shown for a general that is none of the network.\n\
@@ -166,7 +166,7 @@ orders Q|orders Q|The network has Q orders, which are numbered from 0.\n\
 choice C|choice C|The rule by which a lieutenant decides one of several orders has the number C.\n\
 edge A B|edge A B|Generals A and B exchange messages.\n\
 root G R|root G R|The keys of general G have the root R.\n\
-faulty S|faulty S|The list of those that are held for faulty is S, where a hyphen is the empty list.\n\
+faulty S|faulty S|The list of those that are assumed faulty is S, where a hyphen is the empty list.\n\
 walk W|walk W|The generals of a walk, each joined to the next by an edge, are W.\n\
 log of G|log of G byte P length L|The log that is shown for general G begins at byte P of the file, and has L bytes.\n\
 unreadable|unreadable of G fault NAMES|The log that is shown for general G does not read: its fault follows.\n\
@@ -187,13 +187,13 @@ kind 5|kind 5 two texts under one leaf in two runs|Two different texts are signe
 text statement|text F statement round R order V path W|The F text is the statement of order V with the path W, signed in round R.\n\
 text head|text F head of G entries K link L|The F text is the head of a log of general G with K entries and the last link L.\n\
 departs|departs entry I|The log of the accused departs from the algorithm with entry I, counted from 0.\n\
-held for faulty|held for faulty|The judgement holds the general for faulty, and no conviction of this run names the general, which may have followed the algorithm.\n\
-suspected|suspected|One of the findings N1 to N9 names the general, which is neither convicted nor held for faulty: another one may have caused the finding.\n\
-trusted|trusted|Nothing was found against the general, which is not held for faulty: it may still have departed from the algorithm.\n\
+assumed faulty|assumed faulty|The judgement holds the general for faulty, and no conviction of this run names the general, which may have followed the algorithm.\n\
+suspected|suspected|One of the findings N1 to N9 names the general, which is neither convicted nor assumed faulty: another one may have caused the finding.\n\
+nothing found|nothing found|Nothing was found against the general, which is not assumed faulty: it may still have departed from the algorithm.\n\
 accused|accused|The general that the evidence accuses.\n\
 admitted|admitted|What an admission tells of the runs of the input.\n\
-asked|asked|What was asked for beside the input: the list of those held for faulty, and the runs.\n\
-bundle|bundle|A file with the logs of one run: a header, the list of those held for faulty, walks and logs.\n\
+asked|asked|What was asked for beside the input: the list of those assumed faulty, and the runs.\n\
+bundle|bundle|A file with the logs of one run: a header, the list of those assumed faulty, walks and logs.\n\
 byte|byte|The byte of the file at which this stands, counted from 0.\n\
 bytes|bytes|How many bytes the input has.\n\
 campaign|campaign|A file with the bundles of several runs, or the text that says which these are.\n\
@@ -212,7 +212,7 @@ entries|entries|How many entries the log has.\n\
 entry|entry|The number of an entry in its log, counted from 0.\n\
 equal_roots|equal_roots|The pairs of generals that have the same root.\n\
 evidence|evidence|A file with what is signed against one general, which holds or fails by itself.\n\
-faulty|faulty|The generals that are held for faulty; of decisions those with a script.\n\
+faulty|faulty|The generals that are assumed faulty; of decisions those with a script.\n\
 file|file|The format of the file.\n\
 findings|findings|What the audit found, in the order of the names N1 to N11.\n\
 first|first|The first of two generals, runs or texts.\n\
@@ -261,7 +261,7 @@ shown equal roots|shown equal roots|The object of two generals with the same roo
 shown end|shown end|The last object of a bundle, of evidence or of a header.\n\
 shown entry|shown entry|The object of an entry.\n\
 shown fault|shown fault|The object of what does not read.\n\
-shown faulty|shown faulty|The object of the list of those that the file holds for faulty.\n\
+shown faulty|shown faulty|The object of the list of those that the file assumes faulty.\n\
 shown head|shown head|The object of the head of a log.\n\
 shown header|shown header|The object of a header.\n\
 shown log|shown log|The object of a log that reads.\n\
@@ -271,7 +271,7 @@ sign|sign|An entry for a statement that was signed.\n\
 slot|slot|Which of the four runs of one tree of keys this run is.\n\
 start|start|The first entry of a log.\n\
 statement|statement|An order with a path: what a general signs to send it on.\n\
-status|status|What the judgement says of a general: convicted, held for faulty, suspected or trusted; of a fault the exit status.\n\
+status|status|What the judgement says of a general: convicted, assumed faulty, suspected or nothing found; of a fault the exit status.\n\
 statuses|statuses|The status of each general.\n\
 system|system|The id of the system.\n\
 text|text|Whether what is signed is a statement or the head of a log.\n\

@@ -54,7 +54,7 @@ agreed_order (Agreed order) = order
 agreed_order (Explained decisions) = 0
 agreed_order (No findings) = 0
 
--- the verdict, the numbers of the network, who is held for faulty, and the run id
+-- the verdict, the numbers of the network, who is assumed faulty, and the run id
 abbrev pub run_fact : ℕ → Bundle → Verdict → Fact
 run_fact run b verdict = record no_fact {
   kind = 1;
@@ -69,7 +69,7 @@ run_fact run b verdict = record no_fact {
 
 -- ---- the kind 2: the status of a general
 
--- the status that findings, convictions and those held for faulty give a general
+-- the status that findings, convictions and those assumed faulty give a general
 abbrev pub status_fact : ℕ → List ℕ → List Finding → List Accusation → ℕ → Fact
 status_fact run faulty findings convictions g =
     about 2 run g (status_number (status_of faulty findings convictions g))

@@ -76,8 +76,8 @@ pub struct Fact {
     /// The second general of a pair, or the receiver of a message. Of a conviction across two runs, the place of the
     /// second run.
     pub other: u32,
-    /// Of a run its verdict: 1 `agreed`, 2 `explained`, 3 `no`. Of a status: 1 convicted, 2 held for faulty, 3
-    /// suspected, 4 trusted. Of a finding 1 to 11, for N1 to N11. Of a conviction 1 to 4, for K1 to K4. Of a receipt: 1
+    /// Of a run its verdict: 1 `agreed`, 2 `explained`, 3 `no`. Of a status: 1 convicted, 2 assumed faulty, 3
+    /// suspected, 4 nothing found. Of a finding 1 to 11, for N1 to N11. Of a conviction 1 to 4, for K1 to K4. Of a receipt: 1
     /// it holds, 2 it fails.
     pub number: u32,
     /// The order that was agreed on, that a general decided, or that a message has. Of a receipt the order that it says.
@@ -92,7 +92,7 @@ pub struct Fact {
     pub generals: u32,
     /// Of a run, and of the orders that receipts show, how many traitors the network is for.
     pub traitors: u32,
-    /// Of a run the generals that are held for faulty: bit g is that of general g. Of a decision in a scenario, and of a
+    /// Of a run the generals that are assumed faulty: bit g is that of general g. Of a decision in a scenario, and of a
     /// receipt, the orders that the general accepted: bit v is that of order v. Of what receipts show these orders.
     pub set: u32,
     /// Of the findings N5 and N7 the entry of the log, counted from 0. Of a receipt the number of entries of the log.

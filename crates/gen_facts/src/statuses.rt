@@ -13,12 +13,12 @@ use gen_types::{GeneralNo, GeneralSet};
 pub enum Status {
     /// A conviction is the general's.
     Convicted,
-    /// The general is held for faulty.
+    /// The general is assumed faulty.
     Held,
     /// One of the findings N1 to N9 names the general.
     Suspected,
     /// None of these.
-    Trusted,
+    NothingFound,
 }
 
 impl Status {
@@ -28,9 +28,9 @@ impl Status {
     {
         match self {
             Status::Convicted => "convicted",
-            Status::Held => "held for faulty",
+            Status::Held => "assumed faulty",
             Status::Suspected => "suspected",
-            Status::Trusted => "trusted",
+            Status::NothingFound => "nothing found",
         }
     }
 
@@ -42,7 +42,7 @@ impl Status {
             Status::Convicted => 1,
             Status::Held => 2,
             Status::Suspected => 3,
-            Status::Trusted => 4,
+            Status::NothingFound => 4,
         }
     }
 }
@@ -81,7 +81,7 @@ fn is_convicted(convictions: &[Evidence], general: GeneralNo) -> bool
         .any(|evidence| evidence.accused == general)
 }
 
-/// Returns what findings and convictions, and the list of those that are held for faulty, say of a general.
+/// Returns what findings and convictions, and the list of those that are assumed faulty, say of a general.
 pub fn status_of(
     faulty: &GeneralSet,
     findings: &[Finding],
@@ -97,6 +97,6 @@ pub fn status_of(
     } else if is_named(findings, general) {
         Status::Suspected
     } else {
-        Status::Trusted
+        Status::NothingFound
     }
 }

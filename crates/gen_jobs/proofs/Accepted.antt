@@ -125,12 +125,12 @@ audits_by input text report said negative asked origin strict run below listed a
 pub few_scripted : (s : Scenario) → IsStrictlySound s → has_few s.net (scripted s.scripts) ≡ true
 few_scripted s sound = le-leb (length (scripted s.scripts)) s.net.traitors sound.few
 
--- What says no no counts as no no, if nothing is asked strictly, or else few are held for faulty, whose roots differ.
+-- What says no no counts as no no, if nothing is asked strictly, or else few are assumed faulty, whose roots differ.
 pub counts_not : (strict said few : Bool) (shared : List (ℕ × ℕ)) → said ≡ false → (strict ≡ true → few ≡ true) → (strict ≡ true → shared ≡ []) → counts_as_no strict said few shared ≡ false
 counts_not false said few shared not_said enough apart = not_said
 counts_not true said few shared not_said enough apart = rw (not_said, enough refl, apart refl) refl
 
--- one bundle holds few for faulty if and only if all do
+-- one bundle assumes few faulty if and only if all do
 one_few : (p : Bool) → (p && true) ≡ p
 one_few true = refl
 one_few false = refl

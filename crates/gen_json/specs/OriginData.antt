@@ -41,7 +41,7 @@ input_data o = fields (
     ∷ (codes "sha256", digits_data o.digest)
     ∷ [])
 
--- what was asked: the generals that are held for faulty in place of those that are listed, and the runs
+-- what was asked: the generals that are assumed faulty in place of those that are listed, and the runs
 abbrev pub asked_data : Origin → Data
 asked_data o = fields (
     (codes "faulty", maybe numbers_data o.faulty)

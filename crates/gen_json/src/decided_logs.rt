@@ -5,8 +5,9 @@ ghost use Rattle.gen_json.specs.DecidedLogs.{decided_data, logs_data};
 
 use crate::objects::ObjectBuilder;
 use gen_local::Exhibit;
-use gen_log::{Entry, read_log};
+use gen_log::{Entry, read_log_with};
 use gen_net::Header;
+use gen_tree::SignaturePool;
 use gen_types::ReadError;
 use serde_json::Value;
 use std::alloc::{AllocError, Global};
@@ -23,7 +24,7 @@ pub fn decided_value(entries: &[Entry]) -> Value
     }
 }
 
-/// Returns what each log that reads decided, in the order of the exhibits.
+/// Returns what each log that reads decided, in the order of the exhibits. Equal signatures of the logs are copied once.
 ///
 /// # Errors
 ///
@@ -32,8 +33,9 @@ pub fn logs_value(alloc: Global, header: &Header, exhibits: &[Exhibit]) -> Resul
     ensures { IfOk result (λ v. view v ≡ logs_data header.now exhibits.now) }
 {
     let mut list = Vec::new(alloc);
+    let mut pool = SignaturePool::new(alloc);
     for exhibit in exhibits {
-        match read_log(alloc, header, exhibit.log()) {
+        match read_log_with(alloc, header, exhibit.log(), &mut pool) {
             Ok(log) => {
                 let mut object = ObjectBuilder::new(alloc);
                 object.put("general", Value::from(exhibit.general().get()));

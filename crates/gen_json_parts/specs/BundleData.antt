@@ -11,7 +11,7 @@ use Rattle.gen_json.specs.Line.{json_line}
 use Rattle.gen_json_parts.specs.HeaderData.{header_lines}
 use Rattle.gen_json_parts.specs.LogData.{log_lines}
 
--- the generals that are held for faulty
+-- the generals that are assumed faulty
 unfoldable pub faulty_data : List ℕ → Data
 faulty_data faulty = fields (
     (codes "faulty", numbers_data faulty)
@@ -45,7 +45,7 @@ exhibit_lines h at [] = []
 exhibit_lines h at (x ∷ xs) =
     log_lines h x.general (at + exhibit_front_length) x.bytes ++ exhibit_lines h (at + exhibit_length x) xs
 
--- the lines of a bundle that begins at this byte: its header, the generals that are held for faulty, the
+-- the lines of a bundle that begins at this byte: its header, the generals that are assumed faulty, the
 -- walks and the exhibits
 unfoldable pub bundle_lines : ℕ → Bundle → List ℕ
 bundle_lines at b =

@@ -56,7 +56,7 @@ pub fn push_end(alloc: Global, out: &mut Vec<u8>, name: &str) -> Result<(), Allo
     push_value(alloc, out, &object.finish()?)
 }
 
-/// Appends the line of the generals that are held for faulty.
+/// Appends the line of the generals that are assumed faulty.
 #[tactic(auto, using(crate::proofs::PlainShown::faulty_plain), unfolding(crate::specs::BundleData::faulty_data))]
 fn push_faulty(alloc: Global, out: &mut Vec<u8>, faulty: &GeneralSet) -> Result<(), AllocError>
     ensures { OnOk result (out.new.items ≡ out.old.items ++ json_line (faulty_data faulty.now)) }

@@ -92,7 +92,7 @@ pub fn judgement_value(
 }
 
 /// Returns the line of JSON of a judgement on a bundle. It has the run id, the numbers of the network, the generals that
-/// are held for faulty, the least pair of the others that has no walk, the pairs of generals that have the same root, the
+/// are assumed faulty, the least pair of the others that has no walk, the pairs of generals that have the same root, the
 /// status of each general, what each log decided, the verdict with its order, its decisions or its findings, the
 /// convictions, and where the answer comes from.
 ///

@@ -53,7 +53,7 @@ pub fn run_and_audit_bundle<R: Threads + Wait + Sync, G: Gate + Sync, J: JobGate
     // The verdict is that on the bundle of the run.
     ensures verdict { IfOk result (λ made.
         IsVerdict (run_bundle scenario.now faulty.now walks.now) made.1.verdict) }
-    // It is a yes if and only if the bundle supports it. With at most m generals held for faulty, it is then the order
+    // It is a yes if and only if the bundle supports it. With at most m generals assumed faulty, it is then the order
     // on which the rest agree.
     ensures headline { IfOk result (λ made.
         Headline (run_bundle scenario.now faulty.now walks.now) made.1.verdict) }
@@ -102,7 +102,7 @@ pub fn run_and_audit<R: Threads + Wait + Sync, G: Gate + Sync, J: JobGate + Sync
     // The verdict is that on the bundle of the run.
     ensures verdict { IfOk result (λ judgement.
         IsVerdict (run_bundle scenario.now faulty.now walks.now) judgement.verdict) }
-    // It is a yes if and only if the bundle supports it. With at most m generals held for faulty, it is then the order
+    // It is a yes if and only if the bundle supports it. With at most m generals assumed faulty, it is then the order
     // on which the rest agree.
     ensures headline { IfOk result (λ judgement.
         Headline (run_bundle scenario.now faulty.now walks.now) judgement.verdict) }

@@ -1,4 +1,4 @@
--- What is shown with other generals held for faulty is shown of a campaign.
+-- What is shown with other generals assumed faulty is shown of a campaign.
 use Rattle.std.proofs.Common.{◌≡◌, ◌<◌, ◌+◌, ◌≤◌, inl, inr, ℕ, zero, suc, Bool, true, false, cond, not, ltb, List, [], ◌∷◌, ◌++◌, length, take, map, get_or, Contains, All, AllPairs, Result, Ok, Err, Option, Some, None, option_map, refl, sym, ap, subst, ◌∙◌, arith}
 use Rattle.std.specs.List.{AllZip, position_or_len}
 use Rattle.std.proofs.lemmas.List.Elements.{All-contains, All-head, All-nil, All-push, All-tail}
@@ -42,7 +42,7 @@ listed net rest walks ok are = elim are [
 below : (faulty : List ℕ) (b : Bundle) → lacks faulty b ≡ false → AreBelow b.header.network.generals faulty
 below faulty b e = below_known b.header.network.generals faulty (not_false _ e)
 
--- as gen_prepare holds other generals for faulty
+-- as gen_prepare assumes other generals faulty
 pub is_held : (faulty : List ℕ) (b h : Bundle) → prepared.IsHeldAs b faulty h → IsHeld faulty b h
 is_held faulty b h is = record { header = is.header; set = is.faulty_are; walks = is.walks; exhibits = is.exhibits }
 
@@ -133,7 +133,7 @@ one_run faulty b h run up all held = record {
   second = subst (λ (x : RunHeader). IsSecond x.version) (sym held.header) run.second;
 }
 
--- what is shown with other generals held for faulty is shown of a campaign, too
+-- what is shown with other generals assumed faulty is shown of a campaign, too
 pub held_shown : (faulty : List ℕ) (alone : Bool) (bs hs : List Bundle) → AreShown alone bs → AllPairs (λ v w. v < w) faulty → All (HasAll faulty) bs → AllZip (IsHeld faulty) bs hs → AreShown alone hs
 held_shown faulty true [] hs shown up all are = absurd shown
 held_shown faulty true (b ∷ c ∷ bs) hs shown up all are = absurd shown

@@ -58,7 +58,7 @@ IsShowFault asked input fault = IsAuditFault input fault
 -- ---- what is asked of the set, too
 
 -- The input spells a bundle or a campaign of the runs that are asked for. What it shows, with the generals
--- that are asked for held for faulty, is answered so.
+-- that are asked for assumed faulty, is answered so.
 pub record ShowsHeld (asked : Asked) (IsAnswer : CampaignBundle → List ℕ → Bool → Type 0)
     (input text : List ℕ) (negative : Bool) : Type 0 where
   pub shown : CampaignBundle
@@ -85,11 +85,11 @@ IsHeldFault asked input fault = IsAuditFault input fault
 
 -- ---- what counts as a no
 
--- at most m generals of the network are held for faulty
+-- at most m generals of the network are assumed faulty
 abbrev pub has_few : Network → List ℕ → Bool
 has_few net faulty = nat_le (length faulty) net.traitors
 
--- at most m generals are held for faulty in each bundle
+-- at most m generals are assumed faulty in each bundle
 abbrev pub have_few : List Bundle → Bool
 have_few bundles = list_all (λ b. has_few b.header.network b.faulty) bundles
 
@@ -100,7 +100,7 @@ shared_roots [] = []
 shared_roots (b ∷ bundles) = equal_roots b.header
 
 -- What says no counts as a no. If it is asked strictly, a yes counts as a no too in two cases. More than m
--- generals are held for faulty, for its verdict is then `explained` and not `agreed`. Or two generals have
+-- generals are assumed faulty, for its verdict is then `explained` and not `agreed`. Or two generals have
 -- the same root, for one owner of keys is then counted as two.
 abbrev pub counts_as_no : Bool → Bool → Bool → List (ℕ × ℕ) → Bool
 counts_as_no false said few shared = said
@@ -132,7 +132,7 @@ AuditsAs origin strict shown text negative =
     (AuditsShown origin shown.alone shown.bundles) text negative
 
 -- The text is that of the judgement on the bundle or campaign in the input, of the runs that are asked for,
--- with the generals that are asked for held for faulty: as text, or as JSON with where the answer comes from.
+-- with the generals that are asked for assumed faulty: as text, or as JSON with where the answer comes from.
 abbrev pub IsAuditedFrom : Asked → Option Origin → Bool → List ℕ → List ℕ → Bool → Type 0
 IsAuditedFrom asked origin strict input text negative =
     ShowsHeld asked (AuditsAs origin strict) input text negative
@@ -147,7 +147,7 @@ abbrev pub DrawsAll : CampaignBundle → List ℕ → Bool → Type 0
 DrawsAll shown text negative = DrawsForm shown.alone shown.bundles text × (negative ≡ false)
 
 -- the text is the picture of the bundle or campaign in the input, of the runs that are asked for, with the
--- generals that are asked for held for faulty
+-- generals that are asked for assumed faulty
 abbrev pub IsDrawnBy : Asked → List ℕ → List ℕ → Bool → Type 0
 IsDrawnBy asked input text negative = ShowsHeld asked DrawsAll input text negative
 

@@ -44,7 +44,7 @@ campaign_facts bundles judgements across =
     ++ (map (conviction_told bundles) across ++ map equal_roots_fact (shared_roots bundles))
 
 -- The input spells a bundle or a campaign of the runs that are asked for. The facts are those of the
--- judgements on what it shows, with the generals that are asked for held for faulty, and of the convictions
+-- judgements on what it shows, with the generals that are asked for assumed faulty, and of the convictions
 -- across its runs.
 pub record HeldFacts (asked : Asked) (input : List ℕ) (facts : List Fact) : Type 0 where
   pub shown : CampaignBundle

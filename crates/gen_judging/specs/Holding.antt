@@ -1,4 +1,4 @@
--- Bundles and campaigns as if other generals were held for faulty.
+-- Bundles and campaigns as if other generals were assumed faulty.
 use Rattle.std.specs.Prelude.{ℕ, ◌≡◌, Bool, true, false, not, List, Option, Some, None, option_map}
 use Rattle.std.specs.List.{AllZip, position}
 use Rattle.gen_audit.specs.Bundle.{Bundle}
@@ -13,7 +13,7 @@ use Rattle.gen_ends.specs.declared.ends.JobFault.TheVariants as faults
 use Rattle.gen_asked.specs.declared.faulty.Faulty.{Faulty}
 use Rattle.gen_asked.specs.declared.faulty.Faulty.TheVariants.{Listed, These}
 
--- The second bundle has the header and the exhibits of the first. These generals are held for faulty, and the
+-- The second bundle has the header and the exhibits of the first. These generals are assumed faulty, and the
 -- walks are those between the others.
 pub record IsHeld (faulty : List ℕ) (bundle held : Bundle) : Type 0 where
   pub header : held.header ≡ bundle.header

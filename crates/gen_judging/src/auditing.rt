@@ -10,11 +10,11 @@ ghost use Rattle.gen_ends.specs.Ends.{IsTaken, KeepsUntilWhole};
 
 use crate::counting::{counted, have_few, shared_roots};
 use crate::holding::held_as;
-use crate::origins::origin_in;
+use crate::origins::origin_beside;
 use crate::run_ids::check_runs;
 use gen_asked::{Asked, Form};
 use gen_audit::{Bundle, Judgement, Verdict, WorkerCount};
-use gen_campaign::{CampaignBundle, CampaignVerdict, audit_campaign, read_taken_campaign};
+use gen_campaign::{CampaignBundle, CampaignVerdict, audit_campaign, read_shared_campaign};
 use gen_ends::{JobEnd, JobFault, Open, Output, deliver, read_all};
 use gen_json::Origin;
 use gen_json_files::print_campaign_json;
@@ -23,7 +23,7 @@ use gen_report::print_verdict;
 use gen_verdicts::print_campaign;
 use std::alloc::{AllocError, Global};
 use std::io::{Read, Write};
-use std::sync::Wait;
+use std::sync::{ArcSlice, Wait};
 use std::thread::Threads;
 
 /// Returns a judgement on a bundle, and whether its verdict is a no: as text, or as JSON with where the answer comes from.
@@ -79,12 +79,13 @@ pub(crate) fn output_by(
 
 /// Returns in this form the judgement on the bundle or the campaign that the input spells, whose runs must be the ones
 /// that are asked for. For a bundle it is a no if and only if the bundle doesn't support a yes. For a campaign it is a
-/// no if and only if some run's bundle doesn't support a yes. If generals are asked for, these are held for faulty in
+/// no if and only if some run's bundle doesn't support a yes. If generals are asked for, these are assumed faulty in
 /// place of the ones that it lists, and the walks are the best ones between the others, or none if two of them have no
 /// short one; header and exhibits stay. What says no counts as a no. If it is asked strictly, so does a yes that says
 /// `explained`, and a yes if two generals have the same root: a line for each such pair then ends an answer that is
-/// lines. The answer does not depend on the number of workers. As JSON it tells the input's name, if it has one. The
-/// input is taken, and its bytes are not copied unless generals are asked for.
+/// lines. The answer does not depend on the number of workers. As JSON it tells the input's name, if it has one. Then the
+/// input is hashed in a thread of its own while the workers audit. The input is taken, and its bytes are not copied unless
+/// generals are asked for.
 ///
 /// # Errors
 ///
@@ -106,11 +107,14 @@ pub fn audit<T: Threads + Wait + Sync>(
         input.items o.text.items o.negative) }
     ensures fault { IfErr result (ByWorkers workers (IsHeldFault asked.now input.items)) }
 {
-    let origin = origin_in(alloc, form, name, asked, &input)?;
-    let campaign = read_taken_campaign(alloc, input)?;
+    let input = ArcSlice::from_vec(input)?;
+    let campaign = read_shared_campaign(alloc, &input)?;
     check_runs(alloc, asked.runs, campaign.bundles())?;
     let held = held_as(alloc, asked.faulty, campaign)?;
-    let verdict = audit_campaign(rt, alloc, &held, workers, &Open)?;
+    let (origin, verdict) = origin_beside(rt, alloc, form, name, asked, input.as_slice(), || {
+        audit_campaign(rt, alloc, &held, workers, &Open)
+    });
+    let (origin, verdict) = (origin?, verdict?);
     let output = output_by(alloc, &origin, &held, &verdict)?;
     let few = have_few(held.bundles());
     let shared = shared_roots(alloc, held.bundles())?;

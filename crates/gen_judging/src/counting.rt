@@ -11,14 +11,14 @@ use gen_plan::equal_roots;
 use gen_types::{GeneralNo, GeneralSet};
 use std::alloc::{AllocError, Global};
 
-/// Returns whether at most m generals of a network are held for faulty.
+/// Returns whether at most m generals of a network are assumed faulty.
 pub fn has_few(net: &Net, faulty: &GeneralSet) -> bool
     ensures { result ≡ has_few net.now faulty.now }
 {
     faulty.len() <= usize::from(net.traitors())
 }
 
-/// Returns whether at most m generals are held for faulty in each bundle.
+/// Returns whether at most m generals are assumed faulty in each bundle.
 pub(crate) fn have_few(bundles: &[Bundle]) -> bool
     ensures { result ≡ have_few bundles.now }
 {
@@ -40,7 +40,7 @@ pub(crate) fn shared_roots(
     }
 }
 
-/// Returns an output as it counts. If it is asked strictly, it says no too if not few generals are held for faulty or if
+/// Returns an output as it counts. If it is asked strictly, it says no too if not few generals are assumed faulty or if
 /// these generals have the same root. An output that is no JSON, so without where it comes from, then ends with a line
 /// for each pair of them.
 pub fn counted(

@@ -73,7 +73,7 @@ pub(crate) fn picture_by(
 
 /// Returns the picture of the bundle that the input spells and of the judgement on it, as an SVG text. For a campaign it
 /// is that of its runs, one below the other. The runs must be the ones that are asked for. If generals are asked for,
-/// these are held for faulty in place of the ones that it lists, as for `audit`. The output never says no,
+/// these are assumed faulty in place of the ones that it lists, as for `audit`. The output never says no,
 /// whatever the verdict is, and it does not depend on the number of workers. The input is taken, and its bytes are not
 /// copied unless generals are asked for.
 ///

@@ -1,4 +1,4 @@
-//! Bundles and campaigns as if other generals were held for faulty.
+//! Bundles and campaigns as if other generals were assumed faulty.
 ghost use Rattle.std.specs.Prelude.{◌≡◌, ◌<◌, All, IfErr, IfOk, false, length};
 ghost use Rattle.std.specs.List.{AllZip};
 ghost use Rattle.gen_campaign.specs.CampaignSpelling.{campaign_spelling};
@@ -27,7 +27,7 @@ fn lack_fault(alone: bool, place: usize) -> CampaignFault
     }
 }
 
-/// Returns the bundles, in their order, in each of which these generals are held for faulty. Header and exhibits stay.
+/// Returns the bundles, in their order, in each of which these generals are assumed faulty. Header and exhibits stay.
 ///
 /// # Errors
 ///

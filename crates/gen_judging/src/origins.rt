@@ -1,11 +1,14 @@
 //! Where an answer comes from.
-ghost use Rattle.std.specs.Prelude.{◌≡◌, IfOk, option_map};
+ghost use Rattle.std.specs.Prelude.{◌≡◌, IfOk, None, Some, option_map};
+ghost use Rattle.gen_asked.specs.declared.forms.Form.TheVariants.{Json};
 ghost use Rattle.gen_judging.specs.Origins.{ids_asked, list_asked, origin_in};
 
 use gen_asked::{Asked, AskedRuns, Faulty, Form};
 use gen_json::Origin;
 use gen_types::GeneralSet;
 use std::alloc::{AllocError, Global};
+use std::thread;
+use std::thread::Threads;
 
 /// Returns the ids of the runs that are asked for, if any are.
 fn ids_asked(runs: &AskedRuns) -> Option<&[[u8; 32]]>
@@ -52,5 +55,41 @@ pub fn origin_in(
             let (list, ids) = (list_asked(asked.faulty), ids_asked(&asked.runs));
             Ok(Some(Origin::new(alloc, name, input, list, ids)?))
         }
+    }
+}
+
+/// Returns where the answer in this form comes from, as `origin_in` does, and what work on the same input returns. For JSON
+/// the input is hashed in a thread of its own beside the work, or after it if no thread can be made.
+pub(crate) fn origin_beside<T: Threads, V, W: FnOnce() -> V>(
+    rt: &T,
+    alloc: Global,
+    form: Form,
+    name: Option<&str>,
+    asked: &Asked,
+    input: &[u8],
+    work: W,
+) -> (Result<Option<Origin>, AllocError>, V)
+    requires { W.pre work }
+    ensures origin { IfOk result.0 (λ origin. origin
+        ≡ origin_in form (option_map (λ t. t.now) name.entry) asked.now input.now) }
+    ensures work { W.post work result.1 }
+{
+    match (form, name) {
+        (Form::Text, _) => (Ok(None), work()),
+        (Form::Json, None) => thread::join(
+            rt,
+            move || -> Result<Option<Origin>, AllocError>
+                ensures { IfOk result (λ origin. origin ≡ origin_in Json None asked.entry.now input.entry.now) }
+            { origin_in(alloc, Form::Json, None, asked, input) },
+            work,
+        ),
+        (Form::Json, Some(file)) => thread::join(
+            rt,
+            move || -> Result<Option<Origin>, AllocError>
+                ensures { IfOk result (λ origin. origin
+                    ≡ origin_in Json (Some file.entry.now) asked.entry.now input.entry.now) }
+            { origin_in(alloc, Form::Json, Some(file), asked, input) },
+            work,
+        ),
     }
 }

@@ -10,7 +10,7 @@ use Rattle.gen_prepare.specs.Gathering.{IsPartsFault, MakesOfParts}
 use Rattle.gen_ends.specs.declared.ends.JobFault.{JobFault}
 use Rattle.gen_ends.specs.declared.ends.JobFault.TheVariants as faults
 
--- the text spells the bundle of a header's bytes, the generals that are held for faulty, and logs
+-- the text spells the bundle of a header's bytes, the generals that are assumed faulty, and logs
 abbrev pub IsJoined : List ℕ → List ℕ → List LogBytes → List ℕ → Type 0
 IsJoined header faulty logs text =
     (b : Bundle) × MakesOfParts header faulty logs (Ok b) × (text ≡ bundle_spelling b)

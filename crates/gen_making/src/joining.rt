@@ -10,7 +10,7 @@ use gen_prepare::gather;
 use gen_types::GeneralSet;
 use std::alloc::Global;
 
-/// Returns the text of the bundle of a header's bytes, the generals that are held for faulty, and logs, in pieces, so
+/// Returns the text of the bundle of a header's bytes, the generals that are assumed faulty, and logs, in pieces, so
 /// that the logs need no copy. Its walks are those of `make_walks` for the other generals, and none if two of them have
 /// no short one. The logs stand in ascending order of their generals; those of one general stay in their order.
 ///

@@ -49,7 +49,7 @@ pub fn seeded_scenario<T: Threads + Sync>(
     }
 }
 
-/// Returns the bundle of a scenario's run with these logs. The generals that have scripts are held for faulty, and all
+/// Returns the bundle of a scenario's run with these logs. The generals that have scripts are assumed faulty, and all
 /// logs are shown. What a run gives breaks no rule of bundles.
 pub(crate) fn bundle_with_logs(
     alloc: Global,
@@ -85,7 +85,7 @@ fn bundle_of<T: Threads + Wait + Sync>(
 
 /// Returns the bytes of the bundle of the run of the scenario that the input spells. The output never says no. The trees
 /// of keys are made by threads. Each general runs in a thread of its own; the edges hold `capacity` frames each, at least
-/// one. The generals that have scripts are held for faulty, and all logs are shown. The walks are the best ones between
+/// one. The generals that have scripts are assumed faulty, and all logs are shown. The walks are the best ones between
 /// the other generals, or none if two of them have no short one.
 ///
 /// # Errors
@@ -127,7 +127,7 @@ fn run_in_pieces<T: Threads + Wait + Sync>(
 
 /// Reads a scenario text with a seed to its end, makes the trees of keys by threads, runs it, and writes the bundle of
 /// the run. Each general runs in a thread of its own; the edges hold `capacity` frames each, at least one. The generals
-/// that have scripts are held for faulty, and all logs are shown. The walks are the best ones between the other
+/// that have scripts are assumed faulty, and all logs are shown. The walks are the best ones between the other
 /// generals, or none if two of them have no short one.
 ///
 /// A fault of the input is looked for after the whole input was read, and nothing is written before the output is

@@ -11,7 +11,7 @@ use Rattle.gen_match.specs.Prefixes.{path_number}
 use Rattle.gen_match.specs.Ranks.{rank_number}
 use Rattle.gen_match.specs.Rest.{over_rest}
 
--- g isn't held for faulty, and has a log that counts
+-- g isn't assumed faulty, and has a log that counts
 abbrev pub Counts : List ℕ → Logs → ℕ → Type 0
 Counts faulty logs g = (Contains faulty g → ⊥) × HasLog logs g
 

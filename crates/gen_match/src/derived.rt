@@ -95,7 +95,7 @@ fn find_entries(
 
 /// Returns the findings about chains that a faulty general sent a general of the rest and that derive from nothing that
 /// the rest sent a faulty general. There is one finding for each such sender, receiver, round and order, in the order
-/// of findings. The rest are the generals that aren't held for faulty. A general's log is looked at if the general has
+/// of findings. The rest are the generals that aren't assumed faulty. A general's log is looked at if the general has
 /// a single report, of a log that says it is that general's of this run. All reports are made under this header.
 ///
 /// # Errors

@@ -17,7 +17,7 @@ use gen_net::{Header, Net};
 use gen_types::{GeneralNo, GeneralSet};
 use std::alloc::{AllocError, Global};
 
-/// Whether a general isn't held for faulty, and has a log that counts.
+/// Whether a general isn't assumed faulty, and has a log that counts.
 fn counts(general: GeneralNo, faulty: &GeneralSet, reports: &[LocalReport]) -> bool
     ensures { IsTrue result ↔ Counts faulty.now (told_logs reports.now) general }
 {
@@ -41,7 +41,7 @@ fn counted(net: &Net, faulty: &GeneralSet, reports: &[LocalReport]) -> GeneralSe
 
 /// Returns the findings about messages between two generals of the rest that only one of their logs has, or that they
 /// have with different paths. There is one finding for each such sender, receiver, round and order, in the order of
-/// findings. The rest are the generals that aren't held for faulty. A general's log is looked at if the general has a
+/// findings. The rest are the generals that aren't assumed faulty. A general's log is looked at if the general has a
 /// single report, of a log that says it is that general's of this run. All reports are made under this header.
 ///
 /// # Errors

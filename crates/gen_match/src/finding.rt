@@ -2,7 +2,7 @@
 use gen_log::LogFault;
 use gen_types::{GeneralNo, OrderNo};
 
-/// What can be found against the logs of a run. The rest are the generals that aren't held for faulty.
+/// What can be found against the logs of a run. The rest are the generals that aren't assumed faulty.
 ///
 /// Entries are counted from 0, and rounds from 1: the round of a message is the number of its signers.
 #[derive(Clone, Copy, Debug, PartialEq, Eq)]
@@ -78,6 +78,6 @@ pub enum Finding {
         /// The greater of the two generals.
         second: GeneralNo,
     },
-    /// N11: all generals are held for faulty.
+    /// N11: all generals are assumed faulty.
     Nobody,
 }

@@ -1,7 +1,7 @@
 //! Matches the logs of several generals with one another.
 //!
 //! If two generals both follow the signed message algorithm, their logs agree about the messages between them: each
-//! SEND of one is a RECV of the other. A general that is held for faulty may send anything that it can make. It can't
+//! SEND of one is a RECV of the other. A general that is assumed faulty may send anything that it can make. It can't
 //! make the signature of a general that follows.
 //!
 //! The algorithm is that of section 4 of L. Lamport, R. Shostak and M. Pease, "The Byzantine Generals Problem", ACM

@@ -172,7 +172,7 @@ pub record IsAccepted (b : Bundle) (text : List ℕ) (order : ℕ) : Type 0 wher
   pub read : whole_bundle text ≡ Ok b
   pub agreed : (verdict : Verdict) → IsVerdict b verdict → (verdict ≡ Agreed order) × AgreeOn b order
 
--- No general has a script or is held for faulty, and the walks are those that are made between all generals.
+-- No general has a script or is assumed faulty, and the walks are those that are made between all generals.
 -- Then the nodes' logs break no rule of bundles. The text of the bundle, if it is bytes, is accepted with the
 -- commander's order.
 abbrev pub NodesAreAccepted : Type 0

@@ -9,7 +9,7 @@ use gen_types::{GeneralSet, ReadError};
 use gen_walks::Walks;
 use std::alloc::Global;
 
-/// Returns the bytes of the bundle of a run. Its parts are the header, the generals that are held for faulty, walks
+/// Returns the bytes of the bundle of a run. Its parts are the header, the generals that are assumed faulty, walks
 /// between the others, as `make_walks` makes them, and the collected logs in ascending order of their generals. The
 /// logs may be any bytes: they aren't read here, and the audit says what they are.
 ///

@@ -43,7 +43,7 @@ pub fn nodes_make_the_run()
 {}
 
 /// The bundle of a run of nodes is accepted, if no general has a script, and all generals are such nodes whose frames
-/// are handed on. The bundle of their logs can be made, with no general held for faulty and the walks that `make_walks`
+/// are handed on. The bundle of their logs can be made, with no general assumed faulty and the walks that `make_walks`
 /// gives between all. Its bytes are read as that bundle, and its verdict is the commander's order, on which all agree.
 pub fn nodes_are_accepted()
     ensures { NodesAreAccepted }

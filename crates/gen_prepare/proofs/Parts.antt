@@ -1,4 +1,4 @@
--- The bundle in which other generals are held for faulty breaks no rule but that of the set.
+-- The bundle in which other generals are assumed faulty breaks no rule but that of the set.
 use Rattle.std.proofs.Common.{◌≡◌, ℕ, inl, inr, Bool, true, false, List, [], Result, Ok, Err, refl, sym, subst, ◌∙◌, arith}
 use Rattle.std.proofs.lemmas.List.Elements.{All-nil}
 use Rattle.gen_net.specs.Header.{RunHeader}

@@ -1,4 +1,4 @@
--- The bundle of parts: a header's bytes, the generals that are held for faulty, and logs.
+-- The bundle of parts: a header's bytes, the generals that are assumed faulty, and logs.
 use Rattle.std.specs.Prelude.{ℕ, ◌≡◌, ◌⊎◌, ◌==◌, List, length, Result, Ok, Err}
 use Rattle.std.specs.List.{flat_map, range_with_len}
 use Rattle.std.specs.declared.alloc.Global.{Global}

@@ -1,4 +1,4 @@
--- A bundle in which other generals are held for faulty.
+-- A bundle in which other generals are assumed faulty.
 use Rattle.std.specs.Prelude.{ℕ, ◌≡◌, List, Result, Ok, Err}
 use Rattle.gen_types.specs.declared.reading.ReadError.{ReadError}
 use Rattle.gen_types.specs.declared.reading.ReadError.TheVariants as errors

@@ -1,4 +1,4 @@
-//! Makes a bundle of parts: a header's bytes, the generals that are held for faulty, and logs that were collected.
+//! Makes a bundle of parts: a header's bytes, the generals that are assumed faulty, and logs that were collected.
 ghost use Rattle.gen_types.specs.Spelled.{IsRead};
 ghost use Rattle.gen_prepare.specs.Gathering.{Gathers, GathersText, as_text, sole_header};
 
@@ -25,7 +25,7 @@ fn sole_header(alloc: Global, bytes: &[u8]) -> Result<Header, ReadError<BundleFa
     }
 }
 
-/// Returns the bundle of a header's bytes, the generals that are held for faulty, and logs. Its walks are those of
+/// Returns the bundle of a header's bytes, the generals that are assumed faulty, and logs. Its walks are those of
 /// `make_walks` for the other generals, and none if two of them have no short one. Its exhibits are the logs in
 /// ascending order of their generals; those of one general stay in their order. The bytes of logs are not read and not
 /// copied.

@@ -1,4 +1,4 @@
-//! Makes a bundle in which other generals are held for faulty.
+//! Makes a bundle in which other generals are assumed faulty.
 ghost use Rattle.gen_prepare.specs.Holding.{HoldsAs};
 
 use crate::walking::walks_if_any;
@@ -6,7 +6,7 @@ use gen_audit::{Bundle, BundleFault};
 use gen_types::{GeneralSet, ReadError};
 use std::alloc::Global;
 
-/// Returns the bundle in which these generals are held for faulty. Its header and its exhibits are those of the bundle;
+/// Returns the bundle in which these generals are assumed faulty. Its header and its exhibits are those of the bundle;
 /// the bytes of logs are not copied. Its walks are those of `make_walks` for the other generals, and none if two of them
 /// have no short one.
 ///

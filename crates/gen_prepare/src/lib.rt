@@ -1,5 +1,5 @@
 //! What is prepared for a run and for a dispute about it: the root of a seed's keys, the header of a text, the bundle of
-//! logs that were collected, a bundle in which other generals are held for faulty, and the answer to evidence by a log of
+//! logs that were collected, a bundle in which other generals are assumed faulty, and the answer to evidence by a log of
 //! the accused.
 //!
 //! All calls take bytes and values, and none reads a file.

@@ -1,4 +1,4 @@
-//! Walks between the generals that aren't held for faulty.
+//! Walks between the generals that aren't assumed faulty.
 ghost use Rattle.std.specs.Prelude.{IfOk};
 ghost use Rattle.gen_audit.specs.WorldBundle.{AreWalksOfRun};
 ghost use Rattle.gen_prepare.specs.Walking.{AreWalksIfAny};
@@ -20,7 +20,7 @@ pub fn walks_between(alloc: Global, net: &Net, rest: &GeneralSet) -> Result<Walk
     }
 }
 
-/// Returns the best walks between the header's generals that aren't held for faulty, and none if two of them have no
+/// Returns the best walks between the header's generals that aren't assumed faulty, and none if two of them have no
 /// short one. It fails only if memory was refused.
 pub fn walks_if_any(
     alloc: Global,

@@ -1,18 +1,18 @@
 -- How a job ends beside an admission.
-use Rattle.std.proofs.Common.{◌≡◌, ℕ, Bool, true, false, List, [], Option, Some, None, Result, Ok, Err, ◌⊎◌, inl, inr, refl, ap, ◌∙◌, sym, subst}
+use Rattle.std.proofs.Common.{◌≡◌, ℕ, Bool, true, false, List, [], Option, Some, None, Result, Ok, Err, ◌⊎◌, inl, inr, ◌≤◌, length, refl, ap, ◌∙◌, sym, subst}
 use Rattle.std.specs.Prelude.{IfSome, IfOk, IfErr}
 use Rattle.std.specs.Io.KnownBytes.{Keeps}
 use Rattle.gen_asked.specs.declared.forms.Form.{Form}
 use Rattle.gen_asked.specs.declared.jobs.Job.{Job}
 use Rattle.gen_ends.specs.Answering.{Answers, Delivers}
-use Rattle.gen_ends.specs.Ends.{IsReadFault}
+use Rattle.gen_ends.specs.Ends.{IsReadFault, IsTaken, IsWritten, KeepsUntilWhole}
 use Rattle.gen_ends.specs.declared.ends.JobEnd.{JobEnd}
 use Rattle.gen_ends.specs.declared.ends.JobEnd.TheVariants.{Done, Negative, Failed}
 use Rattle.gen_ends.specs.declared.ends.JobFault.{JobFault}
 use Rattle.gen_ends.specs.declared.ends.JobFault.TheVariants as faults
 use Rattle.gen_ends.specs.declared.ends.Output.{Output}
-use Rattle.gen_ends.proofs.Delivering.{answered, unread_answers}
-use Rattle.gen_ends.proofs.Known.{kept}
+use Rattle.gen_ends.proofs.Delivering.{answered, unread_answers, unread_late, unread_taken}
+use Rattle.gen_ends.proofs.Known.{kept, taken}
 use Rattle.gen_enrolling.specs.Admitted.{IsRunsFault}
 use Rattle.gen_enrolling.specs.Among.{AreOwn, IsAskedAmong, form_of, ids_of, job_among}
 use Rattle.gen_enrolling.specs.declared.admitted.AdmittedRuns.{AdmittedRuns}
@@ -20,7 +20,7 @@ use Rattle.gen_enrolling.specs.declared.among.JobAmong.{JobAmong}
 use Rattle.gen_enrolling.specs.declared.enroll_fault.EnrollFault.{EnrollFault}
 use Rattle.gen_jobs.proofs.Unwritten.{no_job_writes}
 use Rattle.gen_jobs.specs.Jobs.{JobAnswers, JobFails}
-use Rattle.gen_program.specs.Admitting.{AnswersAmong, AnswersAsked, EndedAmong, EndsAmong, FailsAmong, FailsAsked, IsEndAmong, IsToldBeside, TellsBeside}
+use Rattle.gen_program.specs.Admitting.{AnswersAmong, AnswersAsked, EndedAmong, EndsAmong, FailsAmong, FailsAsked, IsEndAmong, IsTakenAmong, IsToldBeside, KeepsUntilTold, TellsBeside, TellsOnce}
 use Rattle.gen_program.specs.declared.admitting.ToldEnd.{ToldEnd}
 use Rattle.gen_program.specs.declared.ends.Ended.{Ended}
 
@@ -92,6 +92,59 @@ asked_among job name admission system (Some input) old new all asked told is who
     (more (AnswersAsked asked name all told.lines.items) (AnswersAmong job name admission system told.lines.items all) (FailsAsked asked all) (FailsAmong job admission system all) old new told.end
     (answer_among job name admission system all asked is told.lines.items) (fault_asked job admission system all asked is) ends)
 
+-- ---- what is told
+
+told_none : (lines : List ℕ) (f : JobFault) → lines ≡ [] → TellsOnce lines (Failed f)
+told_none lines faults.Memory none = none
+told_none lines faults.Read none = none
+told_none lines faults.Write none = tt
+told_none lines faults.Thread none = none
+told_none lines (faults.Scenario s) none = none
+told_none lines (faults.Campaign b) none = none
+told_none lines (faults.Evidence e) none = none
+told_none lines (faults.Receipt r) none = none
+told_none lines (faults.Log e) none = none
+told_none lines (faults.Seed e) none = none
+told_none lines (faults.EqualRoots x y) none = none
+told_none lines faults.OtherRun none = none
+told_none lines faults.Open none = none
+
+by_output : (lines text : List ℕ) (negative : Bool) (old new : Option (List ℕ)) (end : JobEnd) → IsWritten text negative old new end → TellsOnce lines end
+by_output lines text negative old new Done w = tt
+by_output lines text negative old new Negative w = tt
+by_output lines text negative old new (Failed f) w = rw w tt
+
+-- a fault in the place of the answer
+pub failed_kept : (a : Option (List ℕ)) (f : JobFault) (end : JobEnd) → end ≡ Failed f → KeepsUntilWhole a a end
+failed_kept a f end is = subst (λ (e : JobEnd). KeepsUntilWhole a a e) (sym is) (unread_late a f)
+
+pub failed_told : (lines : List ℕ) (f : JobFault) (end : JobEnd) → end ≡ Failed f → lines ≡ [] → TellsOnce lines end
+failed_told lines f end is none = subst (λ (e : JobEnd). TellsOnce lines e) (sym is) (told_none lines f none)
+
+pub failed_late : (a : Option (List ℕ)) (f : JobFault) (told : ToldEnd) → told.end ≡ Failed f → told.lines.items ≡ [] → KeepsUntilTold a a (Ok told)
+failed_late a f told is none = (failed_kept a f told.end is, failed_told told.lines.items f told.end is none)
+
+-- an answer that was delivered
+pub delivered_told : (lines : List ℕ) (output : Output) (old new : Option (List ℕ)) (end : JobEnd) → Delivers (Ok output) old new end → TellsOnce lines end
+delivered_told lines output old new end d = by_output lines output.text.items output.negative old new end d
+
+pub asked_late : (old new : Option (List ℕ)) (told : ToldEnd) → KeepsUntilWhole old new told.end → TellsOnce told.lines.items told.end → KeepsUntilTold old new (Ok told)
+asked_late old new told kept_so once = (kept_so, once)
+
+-- an admission with a fault
+pub fault_late : (a : Option (List ℕ)) (fault : EnrollFault) → KeepsUntilTold a a (Err fault)
+fault_late a fault = kept a
+
+-- an input that was read whole is within the limit
+pub taken_among : (remaining : Option (List ℕ)) (all : List ℕ) (ends : Result ToldEnd EnrollFault) → IfSome remaining (λ input. all ≡ input) → length all ≤ 1073741824 → IfSome remaining (λ input. IsTakenAmong input ends)
+taken_among remaining all (Ok told) whole short = taken remaining all told.end whole short
+taken_among None all (Err fault) whole short = tt
+taken_among (Some input) all (Err fault) whole short = subst (λ (xs : List ℕ). length xs ≤ 1073741824) whole short
+
+-- an input that was not read whole
+pub unread_limit : (remaining : Option (List ℕ)) (told : ToldEnd) (f : JobFault) → told.end ≡ Failed f → IsReadFault f → IfSome remaining (λ input. IsTakenAmong input (Ok told))
+unread_limit remaining told f is read = subst (λ (e : JobEnd). IfSome remaining (λ input. IsTaken input e)) (sym is) (unread_taken remaining f read)
+
 -- ---- what is asked
 
 -- an answer that was delivered
@@ -109,6 +162,10 @@ asked_failed asked name input lines f old end is (inr e) = subst (λ (x : JobEnd
 
 -- ---- how an input ended
 
+both : (remaining : Option (List ℕ)) (P Q : List ℕ → Type 0) → IfSome remaining P → IfSome remaining Q → IfSome remaining (λ input. P input × Q input)
+both None P Q p q = tt
+both (Some input) P Q p q = (p, q)
+
 pub ended_among : (job : Job) (name : Option (List ℕ)) (admission : List ℕ) (system remaining old new : Option (List ℕ)) (ends : Result ToldEnd EnrollFault) (ended : Ended) → IsEndAmong ends ended
-    → IfSome remaining (λ input. EndsAmong job name admission system input old new ends) → EndedAmong job name admission system remaining ended
-ended_among job name admission system remaining old new ends ended is h = (ends, is, old, new, h)
+    → IfSome remaining (λ input. EndsAmong job name admission system input old new ends) → IfSome remaining (λ input. IsTakenAmong input ends) → KeepsUntilTold old new ends → EndedAmong job name admission system remaining old new ended
+ended_among job name admission system remaining old new ends ended is h limited kept_so = (ends, is, kept_so, both remaining (λ input. EndsAmong job name admission system input old new ends) (λ input. IsTakenAmong input ends) h limited)

@@ -1,4 +1,5 @@
 pub mod Among
+pub mod Doing
 pub mod Ended
 pub mod Headings
 pub mod Listed

@@ -1,10 +1,14 @@
 -- Jobs whose input must be of runs that an admission admits, and what is told of these runs.
-use Rattle.std.specs.Prelude.{◌≡◌, ℕ, Bool, List, [], Option, Some, None, IfSome, Result, Ok, Err}
+use Rattle.std.specs.Prelude.{◌≡◌, ◌≤◌, ℕ, Bool, List, [], length, Option, Some, None, IfSome, Result, Ok, Err}
 use Rattle.std.specs.Io.KnownBytes.{Keeps}
 use Rattle.gen_asked.specs.declared.forms.Form.{Form}
 use Rattle.gen_asked.specs.declared.jobs.Job.{Job}
 use Rattle.gen_ends.specs.Answering.{Answers}
+use Rattle.gen_ends.specs.Ends.{IsTaken, KeepsUntilWhole}
+use Rattle.gen_ends.specs.declared.ends.JobEnd.{JobEnd}
+use Rattle.gen_ends.specs.declared.ends.JobEnd.TheVariants.{Done, Negative, Failed}
 use Rattle.gen_ends.specs.declared.ends.JobFault.{JobFault}
+use Rattle.gen_ends.specs.declared.ends.JobFault.TheVariants as faults
 use Rattle.gen_enrolling.specs.Admitted.{AreAdmitted, IsRunsFault}
 use Rattle.gen_enrolling.specs.Among.{AreKept, form_of, ids_of, job_among, told_text}
 use Rattle.gen_enrolling.specs.Telling.{admitted_text}
@@ -61,14 +65,32 @@ abbrev pub IsEndAmong : Result ToldEnd EnrollFault → Ended → Type 0
 IsEndAmong (Ok told) ended = IsEndOf told.end ended
 IsEndAmong (Err fault) ended = (ended.status ≡ enroll_status (errors.Fault fault)) × IsOpen ended
 
--- An input with these bytes, if they are known, ended so, since its job ended so beside the admission, or the
--- admission has a fault.
-abbrev pub EndedAmong :
-    Job → Option (List ℕ) → List ℕ → Option (List ℕ) → Option (List ℕ) → Ended → Type 0
-EndedAmong job name admission system input ended =
-    (ends : Result ToldEnd EnrollFault) × IsEndAmong ends ended
-    × (old : Option (List ℕ)) × (new : Option (List ℕ))
-    × IfSome input (λ bytes. EndsAmong job name admission system bytes old new ends)
+-- An input of more than 1,073,741,824 bytes (2^30) is not taken: the read of it fails, or memory is refused
+-- before.
+abbrev pub IsTakenAmong : List ℕ → Result ToldEnd EnrollFault → Type 0
+IsTakenAmong input (Ok told) = IsTaken input told.end
+IsTakenAmong input (Err fault) = length input ≤ 1073741824
+
+-- nothing is told beside an answer that was not whole
+abbrev pub TellsOnce : List ℕ → JobEnd → Type 0
+TellsOnce lines Done = Unit {0}
+TellsOnce lines Negative = Unit {0}
+TellsOnce lines (Failed faults.Write) = Unit {0}
+TellsOnce lines (Failed f) = lines ≡ []
+
+-- What ended before its answer was whole left the writer as it was, and nothing is told beside it.
+abbrev pub KeepsUntilTold : Option (List ℕ) → Option (List ℕ) → Result ToldEnd EnrollFault → Type 0
+KeepsUntilTold old new (Ok told) = KeepsUntilWhole old new told.end × TellsOnce told.lines.items told.end
+KeepsUntilTold old new (Err fault) = Keeps old new
+
+-- An input with these bytes, if they are known, ended so, and this was written meanwhile: its job ended so
+-- beside the admission, or the admission has a fault. Nothing was written before an answer was whole.
+abbrev pub EndedAmong : Job → Option (List ℕ) → List ℕ → Option (List ℕ) → Option (List ℕ)
+    → Option (List ℕ) → Option (List ℕ) → Ended → Type 0
+EndedAmong job name admission system input old new ended =
+    (ends : Result ToldEnd EnrollFault) × IsEndAmong ends ended × KeepsUntilTold old new ends
+    × IfSome input (λ bytes.
+    EndsAmong job name admission system bytes old new ends × IsTakenAmong bytes ends)
 
 -- ---- of private functions
 

@@ -1,4 +1,5 @@
 pub mod Admitting
+pub mod Doing
 pub mod Ends
 pub mod Kinds
 pub mod Many

@@ -1,6 +1,7 @@
 -- Several inputs, one after another: where they come from, the line before each, and how they end.
-use Rattle.std.specs.Prelude.{◌≡◌, ◌⊎◌, ◌≤◌, ◌==◌, ℕ, max, not, Bool, true, false}
-use Rattle.std.specs.Prelude.{List, [], ◌∷◌, ◌++◌, codes, filter, length, map, Option, Some, None, option_map}
+use Rattle.std.specs.Prelude.{◌≡◌, ◌⊎◌, ◌==◌, ℕ, max, not, Bool, true, false}
+use Rattle.std.specs.Prelude.{List, [], ◌∷◌, ◌++◌, codes, filter, length, map, Contains, IsUtf8}
+use Rattle.std.specs.Prelude.{Option, Some, None, option_map}
 use Rattle.std.specs.Char.{is_ascii_control}
 use Rattle.std.specs.List.{All, fold, list_any, slice_split}
 use Rattle.serde_json.specs.Data.{Data, string}
@@ -12,14 +13,18 @@ use Rattle.gen_asked.specs.declared.jobs.Job.TheVariants as jobs
 use Rattle.gen_ends.specs.Ends.{status_of}
 use Rattle.gen_ends.specs.declared.ends.JobEnd.TheVariants.{Done, Failed}
 use Rattle.gen_ends.specs.declared.ends.JobFault.{JobFault}
-use Rattle.gen_enrolling.specs.Admitted.{LacksRuns}
+use Rattle.gen_ends.specs.declared.ends.JobFault.TheVariants as faults
+use Rattle.gen_enrolling.specs.Admitted.{AreAdmitted, LacksRuns}
 use Rattle.gen_enrolling.specs.Resuming.{error_of}
+use Rattle.gen_enrolling.specs.declared.admitted.AdmittedRuns.{AdmittedRuns}
 use Rattle.gen_enrolling.specs.declared.enroll_fault.EnrollFault.{EnrollFault}
 use Rattle.gen_json.specs.JsonData.{fields, json_version, whole}
 use Rattle.gen_json.specs.Line.{json_line}
 use Rattle.gen_json.specs.OriginData.{maybe, tool_version}
 use Rattle.gen_words.specs.declared.listing.Listing.{Listing}
-use Rattle.gen_program.specs.Ends.{IsEnd, IsOpen, enroll_status}
+use Rattle.gen_words.specs.declared.words.WordsFault.{WordsFault}
+use Rattle.gen_words.specs.declared.words.WordsFault.TheVariants as words
+use Rattle.gen_program.specs.Ends.{IsEnd, IsOpen, enroll_status, input_of}
 use Rattle.gen_program.specs.Kinds.{answers_in_json}
 use Rattle.gen_program.specs.Sources.{name_of, named_by}
 use Rattle.gen_program.specs.declared.asking.Admission.{Admission}
@@ -58,11 +63,16 @@ abbrev pub called : Option (List ℕ) → List ℕ
 called None = codes "standard input"
 called (Some name) = name
 
+-- the line that names an input as this, before the lines of its answer
+abbrev pub file_line : List ℕ → List ℕ
+file_line shown = codes "file " ++ shown ++ codes "\n"
+
 -- The line is that which names an input before the lines of its answer. It is not said which escapes stand in
 -- the place of control characters.
-abbrev pub NamesInput : Option (List ℕ) → List ℕ → Type 0
-NamesInput name line =
-    list_any is_ascii_control (called name) ≡ false → line ≡ codes "file " ++ called name ++ codes "\n"
+pub record NamesInput (name : Option (List ℕ)) (line : List ℕ) : Type 0 where
+  pub shown : List ℕ
+  pub is_line : line ≡ file_line shown
+  pub plain : list_any is_ascii_control (called name) ≡ false → shown ≡ called name
 
 -- An answer of one line of JSON names its input, so nothing stands before it. Before another the input is
 -- named.
@@ -84,19 +94,20 @@ IsHeading job name text = IsHeadingIf (answers_in_json job) name text
 -- ---- how they end
 
 -- The last of the ends is that of an input whose answer could not be written, so no input behind it was read.
-pub record AreCutShort (count : ℕ) (ends : List Ended) : Type 0 where
+pub record AreCutShort (inputs : List (Option (List ℕ))) (ends : List Ended) : Type 0 where
   pub before : List Ended
   pub last : Ended
   pub are : ends ≡ before ++ last ∷ []
   pub before_open : All IsOpen before
   pub closed : last.is_last ≡ true
-  pub within : length ends ≤ count
+  pub unread : List (Option (List ℕ))
+  pub first : inputs ≡ map input_of ends ++ unread
 
--- So many inputs ended so, in their order: each of them, or each up to the first whose answer could not be
+-- These inputs ended so, in their order: each of them, or each up to the first whose answer could not be
 -- written.
-abbrev pub AreEnds : ℕ → List Ended → Type 0
-AreEnds count ends =
-    All IsEnd ends × (All IsOpen ends × (length ends ≡ count) ⊎ AreCutShort count ends)
+abbrev pub AreEnds : List (Option (List ℕ)) → List Ended → Type 0
+AreEnds inputs ends =
+    All IsEnd ends × (All IsOpen ends × (map input_of ends ≡ inputs) ⊎ AreCutShort inputs ends)
 
 -- the exit status of several inputs: the greatest of their statuses; 0 if there are none
 abbrev pub status_of_all : List Ended → ℕ
@@ -115,21 +126,51 @@ abbrev pub CanBeList : Option (List ℕ) → List ℕ → Type 0
 CanBeList None list = list ≡ []
 CanBeList (Some file) list = Unit {0}
 
+-- the admission, if one is asked for, admits runs
+abbrev pub AdmitsRuns : Option Admission → Type 0
+AdmitsRuns None = Unit {0}
+AdmitsRuns (Some admission) =
+    (runs : AdmittedRuns)
+    × AreAdmitted (option_map (λ s. s.now) admission.system) admission.bytes.now runs
+
+-- a file was not read: it was not opened, a read of it failed, or memory was refused
+abbrev pub IsUnreadFault : JobFault → Type 0
+IsUnreadFault faults.Open = Unit {0}
+IsUnreadFault faults.Read = Unit {0}
+IsUnreadFault faults.Memory = Unit {0}
+IsUnreadFault _ = ⊥
+
 -- the status is that of a list of names that was not read
 abbrev pub IsUnlisted : Option (List ℕ) → ℕ → Type 0
 IsUnlisted None status = ⊥
-IsUnlisted (Some file) status = (fault : JobFault) × (status ≡ status_of (Failed fault))
+IsUnlisted (Some file) status =
+    (fault : JobFault) × IsUnreadFault fault × (status ≡ status_of (Failed fault))
 
 -- the status is the greatest of the ends of the inputs that words and a list name
 abbrev pub IsOfAll : List (List ℕ) → Option (List ℕ) → ℕ → Type 0
 IsOfAll words file status =
     (list : List ℕ) × CanBeList file list × (ends : List Ended)
-    × AreEnds (length (inputs_named words list)) ends × (status ≡ status_of_all ends)
+    × AreEnds (inputs_named words list) ends × (status ≡ status_of_all ends)
 
--- The status of what is asked of several inputs: that of the admission, if it has a fault; or that of the
--- list of names, if it is not read; or the greatest of all inputs.
+-- The status of what is asked of several inputs: that of the admission, if it has a fault; or else that of
+-- the list of names, if it is not read; or the greatest of all inputs.
 abbrev pub IsOfListing : Asking → Listing → ℕ → Type 0
 IsOfListing asking listing status =
     IsUnadmitted asking.admission status
-    ⊎ IsUnlisted (option_map (λ file. file.now) listing.list) status
-    ⊎ IsOfAll (map (λ word. word.now) listing.files.items) (option_map (λ file. file.now) listing.list) status
+    ⊎ AdmitsRuns asking.admission
+    × (IsUnlisted (option_map (λ file. file.now) listing.list) status
+    ⊎ IsOfAll (map (λ word. word.now) listing.files.items) (option_map (λ file. file.now) listing.list)
+    status)
+
+-- some name is not UTF-8
+abbrev pub IsNotText : List (List ℕ) → Type 0
+IsNotText names = (name : List ℕ) × Contains names name × (IsUtf8 name → ⊥)
+
+-- Nothing is answered: memory was refused, or the admission, if one is asked for, admits runs, and a name in
+-- the list is not UTF-8.
+abbrev pub HasNoListing : Asking → Listing → WordsFault → Type 0
+HasNoListing asking listing words.Memory = Unit {0}
+HasNoListing asking listing words.NotText =
+    AdmitsRuns asking.admission × (list : List ℕ)
+    × CanBeList (option_map (λ file. file.now) listing.list) list × IsNotText (names_in list)
+HasNoListing asking listing _ = ⊥

@@ -2,14 +2,16 @@
 ghost use Rattle.std.specs.Prelude.{◌≡◌, ◌⊎◌, [], IfErr, IfOk, IfSome, option_map};
 ghost use Rattle.gen_asked.specs.Ranges.{IsInRange};
 ghost use Rattle.gen_ends.specs.Answering.{Answers};
+ghost use Rattle.gen_ends.specs.Ends.{KeepsUntilWhole};
 ghost use Rattle.gen_ends.specs.declared.ends.JobEnd.TheVariants.{Failed};
 ghost use Rattle.gen_ends.specs.declared.ends.JobFault.TheVariants.{Memory};
-ghost use Rattle.gen_program.specs.Admitting.{AnswersAsked, EndedAmong, EndsAmong, FailsAsked, TellsBeside};
-ghost use Rattle.gen_program.specs.Ends.{IsEnd};
+ghost use Rattle.gen_program.specs.Admitting.{AnswersAsked, EndedAmong, EndsAmong, FailsAsked, IsTakenAmong, KeepsUntilTold, TellsBeside, TellsOnce};
+ghost use Rattle.gen_program.specs.Ends.{IsEnd, input_of};
 
 use crate::asking::{Admission, Asking};
 use crate::details::{STANDARD_INPUT, Seen};
 use crate::ends::{Ended, finish_seen};
+use crate::sources::source_named;
 use crate::systems::fail_admission;
 use crate::watching::{WatchedReader, WatchedWriter};
 use gen_asked::{Form, Job};
@@ -17,7 +19,6 @@ use gen_enrolling::{AdmittedRuns, EnrollFault, JobAmong, admitted_text, job_amon
 use gen_jobs::{JobEnd, JobFault, Output, answer, deliver, read_all};
 use gen_types::ReadError;
 use std::alloc::{AllocError, Global};
-use std::io;
 use std::io::{Read, Write};
 use std::sync::Wait;
 use std::thread::Threads;
@@ -98,6 +99,7 @@ impl ToldEnd {
 }
 
 /// Writes the answer that is asked of an input, with what is told of its admitted runs, and returns how the job ended.
+#[tactic(auto, using(crate::proofs::Among::asked_answered, crate::proofs::Among::asked_failed, crate::proofs::Among::failed_kept, crate::proofs::Among::failed_told, crate::proofs::Among::delivered_told, gen_ends::proofs::Delivering::late))]
 fn end_asked<T: Threads + Wait + Sync, W: Write>(
     rt: &T,
     alloc: Global,
@@ -107,8 +109,10 @@ fn end_asked<T: Threads + Wait + Sync, W: Write>(
     writer: &mut W,
 ) -> ToldEnd
     requires { IsInRange asked.job }
-    ensures { Answers (AnswersAsked asked (option_map (λ t. t.now) name.entry) input.items result.lines.items)
+    ensures asked { Answers (AnswersAsked asked (option_map (λ t. t.now) name.entry) input.items result.lines.items)
         (FailsAsked asked input.items) (W.contents writer.old) (W.contents writer.new) result.end }
+    ensures late { KeepsUntilWhole (W.contents writer.old) (W.contents writer.new) result.end }
+    ensures lines { TellsOnce result.lines.items result.end }
 {
     match answer_asked(rt, alloc, name, asked, input) {
         Ok(ToldAnswer { output, lines }) => {
@@ -125,7 +129,7 @@ fn end_asked<T: Threads + Wait + Sync, W: Write>(
 /// # Errors
 ///
 /// The first fault of the admission, if it admits no runs, or is of another system than the one that is asked for.
-#[tactic(auto, using(crate::proofs::Among::asked_among, crate::proofs::Among::fault_among, crate::proofs::Among::unread_among))]
+#[tactic(auto, using(crate::proofs::Among::asked_among, crate::proofs::Among::fault_among, crate::proofs::Among::unread_among, crate::proofs::Among::taken_among, crate::proofs::Among::unread_limit, crate::proofs::Among::failed_late, crate::proofs::Among::asked_late, crate::proofs::Among::fault_late))]
 fn end_admitted<T: Threads + Wait + Sync, S: Read, W: Write>(
     rt: &T,
     alloc: Global,
@@ -136,9 +140,13 @@ fn end_admitted<T: Threads + Wait + Sync, S: Read, W: Write>(
     writer: &mut W,
 ) -> Result<ToldEnd, EnrollFault>
     requires { IsInRange job.now }
-    ensures { IfSome (S.remaining reader.old) (λ input. EndsAmong job.now (option_map (λ t. t.now) name.entry)
+    ensures among { IfSome (S.remaining reader.old) (λ input. EndsAmong job.now (option_map (λ t. t.now) name.entry)
         admission.now.bytes.now (option_map (λ s. s.now) admission.now.system) input
         (W.contents writer.old) (W.contents writer.new) result) }
+    // What was read is within the limit.
+    ensures taken { IfSome (S.remaining reader.old) (λ input. IsTakenAmong input result) }
+    // Nothing is written, and nothing told, before the answer is whole.
+    ensures late { KeepsUntilTold (W.contents writer.old) (W.contents writer.new) result }
 {
     let input = match read_all(alloc, reader) {
         Ok(input) => input,
@@ -160,36 +168,37 @@ fn say_lines<R: Eprint>(rt: &R, told: &ToldEnd) {
     }
 }
 
-/// Does a job from a reader, whose file has this name if it has one, to standard output. Its input must be of runs that the
+/// Does a job from a reader, whose file has this name if it has one, to a writer. Its input must be of runs that the
 /// admission admits. Returns how it ended.
 #[tactic(auto, using(crate::proofs::Among::ended_among))]
-pub(crate) fn finish_admitted<R: AllocGlobal + Print + Eprint + Threads + Wait + Sync, S: Read>(
+pub(crate) fn finish_admitted<
+    'a,
+    R: AllocGlobal + Print + Eprint + Threads + Wait + Sync,
+    S: Read,
+    W: Write,
+>(
     rt: &R,
     asking: &Asking<'_>,
     admission: &Admission<'_>,
-    name: Option<&str>,
+    name: Option<&'a str>,
     reader: &mut S,
-) -> Ended
+    writer: &mut WatchedWriter<'_, W>,
+) -> Ended<'a>
     requires { IsInRange asking.now.job.now }
+    ensures input { input_of result ≡ option_map (λ t. t.now) name.entry }
     ensures end { IsEnd result }
     ensures among { EndedAmong asking.now.job.now (option_map (λ t. t.now) name.entry) admission.now.bytes.now
-        (option_map (λ s. s.now) admission.now.system) (S.remaining reader.old) result }
+        (option_map (λ s. s.now) admission.now.system) (S.remaining reader.old)
+        (W.contents writer.old.writer.now) (W.contents writer.new.writer.now) result }
 {
-    let mut output = io::writer(rt);
     let mut reader = WatchedReader::new(reader);
-    let mut writer = WatchedWriter::new(&mut output);
     let alloc = rt.alloc();
-    let told = match end_admitted(
-        rt,
-        alloc,
-        asking.job,
-        admission,
-        name,
-        &mut reader,
-        &mut writer,
-    ) {
+    let told = match end_admitted(rt, alloc, asking.job, admission, name, &mut reader, writer) {
         Ok(told) => told,
-        Err(fault) => return Ended::with(fail_admission(rt, ReadError::Fault(fault))),
+        Err(fault) => {
+            let status = fail_admission(rt, ReadError::Fault(fault));
+            return Ended::with(source_named(name), status);
+        }
     };
     say_lines(rt, &told);
     let seen = Seen {

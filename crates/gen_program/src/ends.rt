@@ -1,14 +1,16 @@
 //! What is told of how a job ended, on standard error and as JSON on standard output, and the exit status of its end.
-ghost use Rattle.std.specs.Prelude.{◌≡◌};
+ghost use Rattle.std.specs.Prelude.{◌≡◌, Some, option_map};
 ghost use Rattle.gen_ends.specs.Ends.{status_of};
 ghost use Rattle.gen_ends.specs.declared.ends.JobEnd.{JobEnd};
 ghost use Rattle.gen_ends.specs.declared.ends.JobEnd.TheVariants.{Failed};
-ghost use Rattle.gen_program.specs.Ends.{IsEnd, IsEndOf, IsOpen, is_unwritten};
+ghost use Rattle.gen_program.specs.Ends.{IsEnd, IsEndOf, IsOpen, input_of, is_unwritten};
+ghost use Rattle.gen_program.specs.Sources.{name_of};
 
 use crate::asking::Asking;
 use crate::details::{Detail, Seen, detail_of};
 use crate::kinds::answers_in_json;
 use crate::reading::Failure;
+use crate::sources::{Source, source_named};
 use gen_asked::Job;
 use gen_jobs::{JobEnd, JobFault, Output, deliver};
 use gen_telling::{input_kind, job_fault_json};
@@ -42,22 +44,39 @@ fn write_fault<R: AllocGlobal + Print>(rt: &R, fault: JobFault, name: Option<&st
 
 /// How the answer to an input ended.
 #[derive(Clone, Copy)]
-pub(crate) struct Ended {
+pub(crate) struct Ended<'a> {
+    /// The input.
+    pub(crate) source: Source<'a>,
     /// The exit status.
     pub(crate) status: u8,
     /// Whether the answer could not be written, so that no further one can.
     pub(crate) is_last: bool,
 }
 
-impl Ended {
-    /// Returns the end with this status, behind which another answer can be written.
-    pub(crate) fn with(status: u8) -> Ended
+impl<'a> Ended<'a> {
+    /// Returns the end of an input with this status, behind which another answer can be written.
+    pub(crate) fn with(source: Source<'a>, status: u8) -> Ended<'a>
+        ensures input { input_of result ≡ name_of source.entry }
         ensures status { result.status ≡ status }
         ensures unclosed { IsOpen result }
     {
         Ended {
+            source,
             status,
             is_last: false,
+        }
+    }
+
+    /// Returns the end of an input whose job ended so, with this status.
+    pub(crate) fn of_end(source: Source<'a>, end: JobEnd, status: u8) -> Ended<'a>
+        ensures input { input_of result ≡ name_of source.entry }
+        ensures status { result.status ≡ status }
+        ensures last { result.is_last ≡ is_unwritten end }
+    {
+        Ended {
+            source,
+            status,
+            is_last: is_unwritten(end),
         }
     }
 }
@@ -89,39 +108,38 @@ fn tell_fault<'a, R: AllocGlobal + Print>(
 }
 
 /// Tells how a job ended of which this was seen. Of one of several inputs that has a fault, some line names the file.
-pub(crate) fn finish_seen<R: AllocGlobal + Print + Eprint>(
+pub(crate) fn finish_seen<'a, R: AllocGlobal + Print + Eprint>(
     rt: &R,
     asking: &Asking<'_>,
-    name: Option<&str>,
+    name: Option<&'a str>,
     end: JobEnd,
     seen: &Seen<'_>,
-) -> Ended
-    ensures { IsEndOf end result }
+) -> Ended<'a>
+    ensures input { input_of result ≡ option_map (λ t. t.now) name.entry }
+    ensures end { IsEndOf end result }
 {
     let detail = match end.fault() {
         Some(fault) => tell_fault(rt, asking, name, fault, seen),
         None => None,
     };
-    Ended {
-        status: end_with(rt, end, detail),
-        is_last: is_unwritten(end),
-    }
+    Ended::of_end(source_named(name), end, end_with(rt, end, detail))
 }
 
 /// Tells why the file of a job was not opened, and returns how the job ended.
-pub(crate) fn finish_unopened<R: AllocGlobal + Print + Eprint>(
+pub(crate) fn finish_unopened<'a, R: AllocGlobal + Print + Eprint>(
     rt: &R,
     job: &Job,
-    name: &str,
+    name: &'a str,
     error: io::Error,
-) -> Ended
-    ensures { IsEnd result }
+) -> Ended<'a>
+    ensures input { input_of result ≡ Some name.now }
+    ensures end { IsEnd result }
 {
     let failure = Failure::of_open(name, error);
     if answers_in_json(job) {
         write_fault(rt, failure.fault, Some(name), &[]);
     }
-    Ended::with(fail_with(rt, &failure))
+    Ended::with(Source::Named(name), fail_with(rt, &failure))
 }
 
 /// Tells a failure, and returns the exit status.

@@ -1,5 +1,7 @@
 //! Jobs that say something of their output on standard error.
+ghost use Rattle.std.specs.Prelude.{IfErr, IfOk, IfSome, option_map};
 ghost use Rattle.gen_asked.specs.Ranges.{IsInRange};
+ghost use Rattle.gen_program.specs.Doing.{AnswersWhole, DidJob, FailsWhole};
 
 use gen_asked::Job;
 use gen_jobs::{JobEnd, JobFault, Output, answer_in_place, deliver, do_job};
@@ -59,30 +61,58 @@ fn lines_of(
     Ok(lines)
 }
 
+/// Returns the output of a job at the input of a reader, whose file has this name, if it has one.
+#[tactic(auto, using(crate::proofs::Doing::done_whole, crate::proofs::Doing::negative_whole, crate::proofs::Doing::failed_whole, crate::proofs::Doing::memory_whole))]
+fn output_of<T: Threads + Wait + Sync, S: Read>(
+    rt: &T,
+    alloc: Global,
+    job: &Job,
+    name: Option<&str>,
+    reader: &mut S,
+) -> Result<Output, JobFault>
+    requires { IsInRange job.now }
+    ensures answer { IfOk result (λ output. IfSome (S.remaining reader.old)
+        (AnswersWhole job.now (option_map (λ t. t.now) name.entry) output.text.items output.negative)) }
+    ensures fault { IfErr result (λ fault. IfSome (S.remaining reader.old)
+        (FailsWhole job.now (option_map (λ t. t.now) name.entry) fault)) }
+{
+    let mut text = Vec::new(alloc);
+    match do_job(rt, alloc, *job, name, reader, &mut text) {
+        JobEnd::Done => Ok(Output {
+            text,
+            negative: false,
+        }),
+        JobEnd::Negative => Ok(Output {
+            text,
+            negative: true,
+        }),
+        // Only memory can be refused to what is written into memory.
+        JobEnd::Failed(JobFault::Write) => Err(JobFault::Memory),
+        JobEnd::Failed(fault) => Err(fault),
+    }
+}
+
 /// Does a job, and says on standard error of which runs its output is, if that is asked for, and of a header why its plan
 /// fails. The output is kept in memory until it is whole.
+#[tactic(auto, using(crate::proofs::Doing::did_fail, crate::proofs::Doing::memory_whole, crate::proofs::Doing::did_deliver))]
 pub(crate) fn do_and_tell<R: AllocGlobal + Eprint + Threads + Wait + Sync, S: Read, W: Write>(
     rt: &R,
     job: &Job,
+    name: Option<&str>,
     names_runs: bool,
     reader: &mut S,
     writer: &mut W,
 ) -> JobEnd
     requires { IsInRange job.now }
+    ensures { DidJob job.now (option_map (λ t. t.now) name.entry) (S.remaining reader.old)
+        (W.contents writer.old) (W.contents writer.new) result }
 {
-    let mut text = Vec::new(rt.alloc());
-    match do_job(rt, rt.alloc(), *job, None, reader, &mut text) {
-        JobEnd::Done => {}
-        // Only memory can be refused to what is written into memory.
-        JobEnd::Failed(JobFault::Write) => return JobEnd::Failed(JobFault::Memory),
-        end => return end,
-    }
-    let Ok(lines) = lines_of(rt.alloc(), job, names_runs, &text) else {
-        return JobEnd::Failed(JobFault::Memory);
+    let output = match output_of(rt, rt.alloc(), job, name, reader) {
+        Ok(output) => output,
+        Err(fault) => return JobEnd::Failed(fault),
     };
-    let output = Output {
-        text,
-        negative: false,
+    let Ok(lines) = lines_of(rt.alloc(), job, names_runs, &output.text) else {
+        return JobEnd::Failed(JobFault::Memory);
     };
     let end = deliver(writer, Ok(output));
     if end == JobEnd::Done && !lines.is_empty() {

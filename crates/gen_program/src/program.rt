@@ -219,7 +219,9 @@ fn finish<R: Files + Terminals + AllocGlobal + Input + Print + Eprint + Threads 
         }
     ) {
         let mut name = request.file.unwrap_or("").as_bytes();
-        return Ok(finish_over(rt, &asking, None, &mut name).status);
+        let mut output = io::writer(rt);
+        let mut writer = WatchedWriter::new(&mut output);
+        return Ok(finish_over(rt, &asking, None, &mut name, &mut writer).status);
     }
     Ok(finish_source(rt, &asking, source_of(request.file)).status)
 }

@@ -1,6 +1,8 @@
 //! The commands that have several files: each file is read in the order of the words.
 ghost use Rattle.std.specs.Prelude.{◌≡◌, IfErr};
+ghost use Rattle.gen_ends.specs.Ends.{IsReadFault};
 ghost use Rattle.gen_program.specs.Kinds.{IsFailedOpen};
+ghost use Rattle.gen_program.specs.Many.{IsUnreadFault};
 
 use crate::details::{Detail, STANDARD_INPUT};
 use crate::sources::{Source, source_of};
@@ -91,7 +93,9 @@ fn read_watched<'a, S: Read>(
     alloc: Global,
     reader: &mut S,
     file: &'a str,
-) -> Result<Vec<u8>, Failure<'a>> {
+) -> Result<Vec<u8>, Failure<'a>>
+    ensures { IfErr result (λ failure. IsReadFault failure.fault) }
+{
     let mut watched = WatchedReader::new(reader);
     match read_all(alloc, &mut watched) {
         Ok(bytes) => Ok(bytes),
@@ -107,7 +111,9 @@ fn read_watched<'a, S: Read>(
 pub(crate) fn read_file<'a, R: Files + Terminals + AllocGlobal + Input + Eprint>(
     rt: &R,
     name: &'a str,
-) -> Result<Vec<u8>, Failure<'a>> {
+) -> Result<Vec<u8>, Failure<'a>>
+    ensures { IfErr result (λ failure. IsUnreadFault failure.fault) }
+{
     match source_of(Some(name)) {
         Source::Standard => {
             tell_waiting(rt);

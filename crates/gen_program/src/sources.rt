@@ -27,6 +27,16 @@ pub(crate) fn source_of<'a>(word: Option<&'a str>) -> Source<'a>
     }
 }
 
+/// Returns the file of this name, and standard input without a name.
+pub(crate) fn source_named<'a>(name: Option<&'a str>) -> Source<'a>
+    ensures { name_of result ≡ option_map (λ t. t.now) name.entry }
+{
+    match name {
+        None => Source::Standard,
+        Some(name) => Source::Named(name),
+    }
+}
+
 impl<'a> Source<'a> {
     /// Returns the name of the file; None for standard input.
     pub(crate) fn name(self) -> Option<&'a str>

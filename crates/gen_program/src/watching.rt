@@ -96,7 +96,8 @@ impl<'a, R: Read> Read for WatchedReader<'a, R> {
 /// A writer that keeps why the last write or flush failed, if it did.
 #[derive(Drop)]
 pub(crate) struct WatchedWriter<'a, W> {
-    writer: &'a mut W,
+    /// The writer.
+    pub(crate) writer: &'a mut W,
     /// Why the last write or flush failed, if it did.
     pub(crate) failure: Option<io::Error>,
 }

@@ -11,7 +11,7 @@ use Rattle.gen_match.specs.Matching.{Logs}
 use Rattle.gen_audit.specs.Agreement.{AgreesOn}
 use Rattle.gen_audit.specs.Explained.{IsExplained}
 use Rattle.gen_receipt.specs.declared.receipts.Receipt.{Receipt}
-use Rattle.gen_receipt.specs.Receipts.{AreReceipts, IsReceiptOf}
+use Rattle.gen_receipt.specs.Receipts.{AreReceipts, IsReceiptOf, ReceiptHolds}
 use Rattle.gen_receipt.specs.Refuted.{HasDecisionOf, IsAnswerToReceipt}
 use Rattle.gen_receipt.specs.Shown.{IsShown}
 
@@ -28,17 +28,18 @@ pub record IsRunWithFew (net : Network) (faulty rest : List ℕ) (walks : List (
   pub bound : BoundsDiameter net rest walks
   pub explained : IsExplained net faulty (entries_of logs)
 
--- the receipts of the rest have the decisions of the logs that the rest kept
-abbrev pub AreGivenByRest : Network → List ℕ → (ℕ → RunLog) → List Receipt → Type 0
-AreGivenByRest net faulty logs receipts =
-    (r : Receipt) → Contains receipts r → IsLoyal net faulty r.general → HasDecisionOf (logs r.general) r
+-- the receipts of the rest that hold have the decisions of the logs that the rest kept
+abbrev pub AreGivenByRest : RunHeader → List ℕ → (ℕ → RunLog) → List Receipt → Type 0
+AreGivenByRest h faulty logs receipts =
+    (r : Receipt) → Contains receipts r → ReceiptHolds h r → IsLoyal h.network faulty r.general
+    → HasDecisionOf (logs r.general) r
 
--- if the rest gave their receipts, the rest decided an order that the receipts show
+-- if the rest gave those of their receipts that hold, the rest decided an order that the receipts show
 abbrev pub EnoughReceipts : Type 0
 EnoughReceipts =
     (h : RunHeader) (faulty rest : List ℕ) (walks : List (List ℕ)) (logs : ℕ → RunLog)
     → IsRunWithFew h.network faulty rest walks logs
-    → (receipts : List Receipt) → AreReceipts h receipts → AreGivenByRest h.network faulty logs receipts
+    → (receipts : List Receipt) → AreReceipts h receipts → AreGivenByRest h faulty logs receipts
     → (order : ℕ) → IsShown h receipts order → AgreesOn h.network faulty (entries_of logs) order
 
 -- the logs that the rest kept verify

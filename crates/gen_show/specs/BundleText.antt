@@ -10,7 +10,7 @@ use Rattle.gen_show.specs.HeaderText.{header_lines}
 use Rattle.gen_show.specs.LogText.{log_lines}
 use Rattle.gen_file.specs.Lists.{listed}
 
--- the line of the generals that are held for faulty, and that of a walk
+-- the line of the generals that are assumed faulty, and that of a walk
 abbrev pub faulty_line : List ℕ → List ℕ
 faulty_line faulty = codes "faulty " ++ listed faulty ++ codes "\n"
 
@@ -23,7 +23,7 @@ exhibit_lines h at [] = []
 exhibit_lines h at (x ∷ xs) =
     log_lines h x.general (at + exhibit_front_length) x.bytes ++ exhibit_lines h (at + exhibit_length x) xs
 
--- the lines of a bundle that begins at this byte: its header, the generals that are held for faulty, the
+-- the lines of a bundle that begins at this byte: its header, the generals that are assumed faulty, the
 -- walks and the exhibits
 unfoldable pub bundle_lines : ℕ → Bundle → List ℕ
 bundle_lines at b =

@@ -31,6 +31,7 @@ use Rattle.gen_system.specs.Secrets.{AreSecretsOf, SecretsLead, admission_for, o
 use Rattle.gen_system.specs.SystemReading.{system_at, whole_system}
 use Rattle.gen_system.specs.Systems.{RunSystem, IsSystem, identity_in, system_spelling}
 use Rattle.gen_system.proofs.Growing.{all_more, root_at}
+use Rattle.gen_system.proofs.Lawful.{lawful}
 use Rattle.gen_system.proofs.AdmissionLaws.{admissions_read}
 use Rattle.gen_system.proofs.SystemLaws.{systems_read}
 use Rattle.gen_system.proofs.Whole.{alone_only}
@@ -149,6 +150,7 @@ secrets_lead s run secret is own below = record {
     holds = made_holds s run secret own below;
     of_run = refl;
   };
+  lawful = lawful (admission_for s run secret) run (is_made s run secret is below);
   roots = root_led s run secret;
 }
 

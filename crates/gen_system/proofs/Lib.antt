@@ -2,6 +2,7 @@ mod AdmissionLaws
 mod Apart
 pub mod FromSecrets
 mod Growing
+mod Lawful
 mod Moved
 mod RunHeaders
 mod RunNetLaws

@@ -15,7 +15,7 @@ use Rattle.gen_system.specs.RunNets.{network_of_run}
 use Rattle.gen_system.specs.Runs.{node_of, version_of_run}
 use Rattle.gen_system.proofs.RunNetLaws.{count_of_run}
 
-slot_fits : (v : Version) (run : ℕ) → slot_in (version_of_run v run) ≤ greatest_slot
+pub slot_fits : (v : Version) (run : ℕ) → slot_in (version_of_run v run) ≤ greatest_slot
 slot_fits One run = omega arith
 slot_fits (Two slot) run = let below = mod_below run 4 (omega arith) in omega (arith, below)
 

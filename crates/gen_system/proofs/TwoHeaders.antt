@@ -34,7 +34,7 @@ map_same f g k (suc n) same =
     ap (λ (x : List ℕ). x ∷ map f (range_with_len (k + 1) n)) (same k (omega arith))
     ∙ ap (λ (xs : List (List ℕ)). g k ∷ xs) (map_same f g (k + 1) n (λ i lt. same i (omega (arith, lt))))
 
-node_below : (p : Proposer) (n run g : ℕ) → g < n → node_by p n run g < n
+pub node_below : (p : Proposer) (n run g : ℕ) → g < n → node_by p n run g < n
 node_below First n run g lt = lt
 node_below Turns n run g lt = mod_below _ n (omega (arith, lt))
 

@@ -3,7 +3,7 @@ use Rattle.std.specs.Prelude.{ℕ, ◌≡◌, ◌<◌, ◌^◌, List, map}
 use Rattle.std.specs.List.{range_with_len}
 use Rattle.gen_types.specs.declared.heights.TreeHeight.{TreeHeight}
 use Rattle.gen_tree.specs.Rings.{ring_root}
-use Rattle.gen_net.specs.Header.{height_of, root_of}
+use Rattle.gen_net.specs.Header.{IsHeader, height_of, root_of}
 use Rattle.gen_identity.specs.Openings.{siblings_of}
 use Rattle.gen_identity.specs.Sets.{identity_of_secret, set_roots}
 use Rattle.gen_identity.specs.States.{seed_after}
@@ -41,11 +41,12 @@ admission_for s run secret =
           (range_with_len 0 s.header.network.generals);
     }
 
--- The admission is one, and it admits the header of the run. The root of the general that a node is has the
--- keys that the node makes of its secret.
+-- The admission is one, and it admits the header of the run, which keeps the rules of headers. The root of
+-- the general that a node is has the keys that the node makes of its secret.
 pub record LeadToHeader (s : RunSystem) (run : ℕ) (secret : ℕ → List ℕ) (a : SetAdmission) : Type 0 where
   pub admission : IsAdmission a
   pub admits : Admits (system_id_of s) run (header_of_run a run) a
+  pub lawful : IsHeader (header_of_run a run)
   pub roots : (node : ℕ) → node < s.header.network.generals
       → root_of (header_of_run a run) (general_of s run node) ≡ root_for s run (secret node)
 

@@ -1,6 +1,6 @@
 //! What admissions show: the headers of the runs of their sets.
 ghost use Rattle.std.specs.Prelude.{◌≡◌, ◌↔◌, ◌<◌, IsTrue, IfOk};
-ghost use Rattle.gen_net.specs.Header.{header_with};
+ghost use Rattle.gen_net.specs.Header.{IsHeader, header_with};
 ghost use Rattle.gen_system.specs.Runs.{version_of_run};
 ghost use Rattle.gen_system.specs.Admitting.{Admits, Holds, HoldsOf, IsNumberOf, header_of_run, roots_of_run};
 
@@ -90,7 +90,9 @@ fn header_in_run(
 ///
 /// `AllocError` if memory is refused.
 pub fn header_of(alloc: Global, admission: &Admission, run: u32) -> Result<Header, AllocError>
-    ensures { IfOk result (λ header. header ≡ header_of_run admission.now run) }
+    ensures value { IfOk result (λ header. header ≡ header_of_run admission.now run) }
+    // It is a header that keeps its rules.
+    ensures lawful { IfOk result IsHeader }
 {
     let system = admission.system();
     let net = system.net_of(alloc, run)?;
@@ -130,7 +132,8 @@ pub fn admits(
 }
 
 /// Returns the number of the run with this header, if the admission admits it in the system with this id; None if and
-/// only if it is none of the runs of the admission's set. There is one such number at most.
+/// only if the admission admits it under no number. Then the admission is of another system, or does not hold, or the
+/// header is that of no run of its set. There is one such number at most.
 ///
 /// # Errors
 ///

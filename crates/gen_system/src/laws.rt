@@ -3,7 +3,7 @@
 ghost use Rattle.std.specs.Prelude.{ℕ, ◌≡◌, ◌<◌, ◌%◌, List};
 ghost use Rattle.gen_types.specs.Spelled.{HasOneSpelling};
 ghost use Rattle.gen_system.specs.declared.proposers.Proposer.TheVariants.{Turns};
-ghost use Rattle.gen_net.specs.Header.{RunHeader};
+ghost use Rattle.gen_net.specs.Header.{RunHeader, IsHeader};
 ghost use Rattle.gen_system.specs.Admissions.{SetAdmission, IsAdmission, admission_spelling};
 ghost use Rattle.gen_system.specs.Admitting.{Admits, Holds, header_of_run};
 ghost use Rattle.gen_system.specs.Colliding.{TwoHeadersTell};
@@ -42,12 +42,14 @@ pub fn generals_are_nodes()
         → node_of s run (general_of s run v) ≡ v }
 {}
 
-/// States what admissions admit. A run that is admitted is one of the system's (`below`). An admission that holds admits
-/// the header of each run of its set (`own`), and no other for that run (`alone`). It admits a header under one number
-/// at most (`number`).
+/// States what admissions admit. A run that is admitted is one of the system's (`below`), and its header keeps the rules
+/// of headers (`lawful`). An admission that holds admits the header of each run of its set (`own`), and no other for that
+/// run (`alone`). It admits a header under one number at most (`number`).
 pub fn runs_are_admitted()
     ensures below { (id : List ℕ) (run : ℕ) (h : RunHeader) (a : SetAdmission)
         → IsAdmission a → Admits id run h a → run < run_count_of a.system }
+    ensures lawful { (id : List ℕ) (run : ℕ) (h : RunHeader) (a : SetAdmission)
+        → IsAdmission a → Admits id run h a → IsHeader h }
     ensures own { (run : ℕ) (a : SetAdmission)
         → Holds a → a.set ≡ set_of_run a.system.header.version run
         → Admits (system_id_of a.system) run (header_of_run a run) a }

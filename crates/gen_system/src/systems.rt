@@ -4,14 +4,13 @@ ghost use Rattle.std.specs.Bool.{nat_eq};
 ghost use Rattle.std.specs.Cmp.Lexicographic.{pointwise};
 ghost use Rattle.std.specs.List.{list_any};
 ghost use Rattle.gen_types.specs.Spelled.{IsRead};
-ghost use Rattle.gen_system.specs.Runs.{run_count_of};
 ghost use Rattle.gen_system.specs.Systems.{IsSystem, fit_header, has_equal, identity_in, system_with};
 
 use crate::proposers::Proposer;
 use crate::system_fault::SystemFault;
 use gen_identity::Identity;
 use gen_identity::sizes::MOST_LEVELS;
-use gen_net::{Header, Version};
+use gen_net::Header;
 use gen_types::{GeneralNo, ReadError, check};
 use std::marker::Model;
 
@@ -153,17 +152,6 @@ impl System {
         Identity {
             levels: self.levels,
             top: *self.header.root(node),
-        }
-    }
-
-    /// Returns the number of the system's runs: 2 to the power of the levels, times 1 in version 1 and 4 in version 2.
-    pub fn run_count(&self) -> u32
-        ensures { result ≡ run_count_of self.now }
-    {
-        let sets = 1u32 << self.levels;
-        match self.header.version() {
-            Version::One => sets,
-            Version::Two { .. } => 4 * sets,
         }
     }
 }

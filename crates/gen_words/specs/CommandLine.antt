@@ -39,7 +39,7 @@ admission_file = option_named (codes "admission")
 abbrev pub system_id : Rule
 system_id = option_named (codes "system")
 
--- the generals that are held for faulty in place of those that the input lists
+-- the generals that are assumed faulty in place of those that the input lists
 abbrev pub faulty : Rule
 faulty = option_named (codes "faulty")
 

@@ -42,7 +42,7 @@ unfoldable pub runs_asked : Option Text → Option AskedRuns
 runs_asked None = Some Any
 runs_asked (Some text) = runs_named text
 
--- the generals that are held for faulty: those that the input lists without a text, and those that a text
+-- the generals that are assumed faulty: those that the input lists without a text, and those that a text
 -- spells
 unfoldable pub faulty_asked : Option Text → Option Faulty
 faulty_asked None = Some Listed

@@ -47,7 +47,7 @@ is_standard name = bytes_eq name (codes "-")
 abbrev pub standards : List Text → ℕ
 standards names = count_by is_standard names
 
--- the generals that are held for faulty: nobody without a text, and else those that the text spells
+-- the generals that are assumed faulty: nobody without a text, and else those that the text spells
 abbrev pub set_given : Option Text → Option (List ℕ)
 set_given None = Some []
 set_given (Some text) = set_named text

@@ -76,7 +76,7 @@ takes_runs name =
     || bytes_eq name (codes "evidence") || bytes_eq name (codes "receipt") || bytes_eq name (codes "receipts")
     || bytes_eq name (codes "show")
 
--- whether a command takes the generals that are held for faulty
+-- whether a command takes the generals that are assumed faulty
 abbrev pub takes_faulty : Text → Bool
 takes_faulty name = bytes_eq name (codes "audit") || bytes_eq name (codes "draw")
 

@@ -9,7 +9,7 @@ use gen_types::TreeHeight;
 pub(crate) struct Choices {
     /// The runs that are asked for, if their text spells run ids.
     pub(crate) runs: Option<AskedRuns>,
-    /// Who is held for faulty, if its text spells generals.
+    /// Who is assumed faulty, if its text spells generals.
     pub(crate) faulty: Option<Faulty>,
     /// Whether `explained` counts as a no.
     pub(crate) strict: bool,

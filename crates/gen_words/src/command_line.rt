@@ -137,12 +137,12 @@ fn with_asked<'a>(alloc: Global, command: CommandBuilder<'a>) -> CommandBuilder<
         .arg(system_option(alloc))
 }
 
-/// Returns the option `--faulty`: the generals that are held for faulty in place of those that the input lists.
+/// Returns the option `--faulty`: the generals that are assumed faulty in place of those that the input lists.
 fn faulty_option<'a>(alloc: Global) -> Arg<'a>
     ensures rule { rule_of result ≡ lines.faulty }
     ensures local { result.global ≡ false }
 {
-    let help = "Judges as if these were held for faulty: 'none', or numbers 0 to 15 with commas";
+    let help = "Judges as if these were assumed faulty: 'none', or numbers 0 to 15 with commas";
     option_named(alloc, "faulty", "LIST", help)
 }
 
@@ -454,7 +454,7 @@ fn with_telling<'a>(alloc: Global, tool: CommandBuilder<'a>) -> CommandBuilder<'
 {
     let about = "Prints what a name means that stands in an answer, or all names; reads no input";
     let name =
-        "A word of an answer, as N8, K2, P6, 'P9 S3', agreed, trusted or 'status 3'; all names are listed without it";
+        "A word of an answer, as N8, K2, P6, 'P9 S3', agreed, suspected or 'status 3'; all names are listed without it";
     let name = word_named(alloc, "file", "NAME", name);
     let explain = CommandBuilder::new(alloc, "explain", about).arg(name);
     let about =

@@ -17,7 +17,7 @@ pub(crate) const STANDARD: &str = "-";
 pub enum Several<'a> {
     /// Joins a header and logs into a bundle.
     Bundle {
-        /// The generals that are held for faulty.
+        /// The generals that are assumed faulty.
         faulty: GeneralSet,
         /// The word for the file of the header.
         header: &'a str,

@@ -182,7 +182,7 @@ fn runs_asked(alloc: Global, text: Option<&str>) -> Result<Option<AskedRuns>, Al
     }
 }
 
-/// Returns the generals that are held for faulty: those that the input lists without a text, and those that a text
+/// Returns the generals that are assumed faulty: those that the input lists without a text, and those that a text
 /// spells. None if it spells none.
 #[tactic(auto, unfolding(crate::specs::Jobs::faulty_asked))]
 fn faulty_asked(alloc: Global, text: Option<&str>) -> Result<Option<Faulty>, AllocError>

@@ -5,7 +5,7 @@
 ghost use Rattle.std.specs.Prelude.{IfOk, ◌<◌};
 ghost use Rattle.gen_audit.specs.BundleParts.{AreListedWalks};
 
-use crate::scenarios::{LINE, RING, STAR, TWO_RUNS, logs_of_run, stage_of};
+use crate::scenarios::{LINE, RING, STAR, TWO_RUNS, TWO_STARS, logs_of_run, stage_of};
 use gen_audit::{
     AuditFault, Bundle, JobGate, Judgement, Verdict, WorkerCount, audit, write_bundle,
 };
@@ -167,7 +167,7 @@ fn count_of(workers: usize) -> Result<WorkerCount, Fail> {
     Ok(WorkerCount::new(workers).ok_or("no count")?)
 }
 
-/// The judgement on a run in which nobody is held for faulty, over edges of so much room, by so many workers,
+/// The judgement on a run in which nobody is assumed faulty, over edges of so much room, by so many workers,
 /// which the gates see; or why there is none.
 fn judged<R: Threads + Wait + Sync>(
     rt: &R,
@@ -238,7 +238,7 @@ fn runs_are_judged_while_they_go_on(rt: HostRuntime) -> Result<(), Fail> {
     Ok(())
 }
 
-/// The bundle of a scenario's run, in which nobody is held for faulty.
+/// The bundle of a scenario's run, in which nobody is assumed faulty.
 fn bundle_of(alloc: Global, scenario: &Scenario) -> Result<Bundle, Fail> {
     let exhibits = exhibits_of_logs(alloc, logs_of_run(alloc, scenario)?)?;
     let walks = walks_of(alloc, scenario)?;
@@ -266,11 +266,12 @@ fn audits_at_once<R: Threads + Wait + Sync>(
     Ok(is_agreed(&judgement) && gate.has_met(once, 0))
 }
 
-/// A text, how many workers there are, how many of them wait for each other, and each log once.
+/// A text, how many workers are asked for, how many of them wait for each other, and each log once. A worker
+/// takes up to eight logs before it works, so one takes all logs of the ring, and two those of the star.
 const AUDITS: [(&[u8], usize, usize, u64); 3] = [
-    (RING, 3, 3, SIX_ONCE),
-    (RING, 16, 6, SIX_ONCE),
-    (STAR, 16, 16, ALL_ONCE),
+    (RING, 16, 1, SIX_ONCE),
+    (STAR, 2, 2, ALL_ONCE),
+    (STAR, 16, 2, ALL_ONCE),
 ];
 
 #[test]
@@ -319,20 +320,20 @@ fn are_agreed(verdict: &CampaignVerdict) -> bool {
     true
 }
 
-/// Whether three workers audit at once what is shown of a campaign of two runs, each with three logs.
+/// Whether two workers audit at once what is shown of a campaign of two runs, each with 16 logs.
 fn campaign_at_once<R: Threads + Wait + Sync>(
     rt: &R,
     alloc: Global,
     shown: &CampaignBundle,
 ) -> Result<bool, Fail> {
-    let gate = Meeting::new(3, 6, NOBODY);
-    let verdict = audit_campaign(rt, alloc, shown, count_of(3)?, &gate)?;
-    Ok(are_agreed(&verdict) && gate.has_met(2 * THREE_ONCE, 0))
+    let gate = Meeting::new(2, 32, NOBODY);
+    let verdict = audit_campaign(rt, alloc, shown, count_of(2)?, &gate)?;
+    Ok(are_agreed(&verdict) && gate.has_met(2 * ALL_ONCE, 0))
 }
 
 #[test]
 fn workers_audit_a_campaign_at_once(rt: HostRuntime) -> Result<(), Fail> {
-    let campaign = campaign_of(&rt, rt.alloc(), TWO_RUNS)?;
+    let campaign = campaign_of(&rt, rt.alloc(), TWO_STARS)?;
     let shown = shown_of(rt.alloc(), &campaign)?;
     assert!(rt; campaign_at_once(&rt, rt.alloc(), &shown)?);
     Ok(())

@@ -47,6 +47,17 @@ pub(crate) const TWO_RUNS: &[u8] = b"\
     generals 3\nedge 0 1\nedge 0 2\nedge 1 2\ntraitors 1\ndiameter 1\norders 2\nchoice 0\norder 1\n\
     seed 0000000000000000000000000000000000000000000000000000000000000000\nslot 1\nend\n";
 
+/// A campaign of two runs of 16 generals: all others are neighbours of general 0.
+pub(crate) const TWO_STARS: &[u8] = b"\
+    campaign 2\ngenerals 16\nedge 0 1\nedge 0 2\nedge 0 3\nedge 0 4\nedge 0 5\nedge 0 6\nedge 0 7\nedge 0 8\n\
+    edge 0 9\nedge 0 10\nedge 0 11\nedge 0 12\nedge 0 13\nedge 0 14\nedge 0 15\ntraitors 0\n\
+    diameter 2\norders 2\nchoice 0\norder 1\n\
+    seed 0000000000000000000000000000000000000000000000000000000000000000\nslot 0\nend\n\
+    generals 16\nedge 0 1\nedge 0 2\nedge 0 3\nedge 0 4\nedge 0 5\nedge 0 6\nedge 0 7\nedge 0 8\n\
+    edge 0 9\nedge 0 10\nedge 0 11\nedge 0 12\nedge 0 13\nedge 0 14\nedge 0 15\ntraitors 0\n\
+    diameter 2\norders 2\nchoice 0\norder 1\n\
+    seed 0000000000000000000000000000000000000000000000000000000000000000\nslot 1\nend\n";
+
 /// A scenario. One call lets it go, where else each way out of a test would let go each of its parts.
 pub(crate) struct Stage {
     pub(crate) scenario: Scenario,

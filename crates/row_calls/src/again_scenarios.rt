@@ -76,7 +76,7 @@ fn walks_of(alloc: Global, scenario: &Scenario) -> Result<Walks, WalkFault>
     }
 }
 
-/// Runs a scenario while two workers audit its logs. The generals with scripts are held for faulty.
+/// Runs a scenario while two workers audit its logs. The generals with scripts are assumed faulty.
 fn audited_run<R: Threads + Wait + Sync>(
     rt: &R,
     alloc: Global,

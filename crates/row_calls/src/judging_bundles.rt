@@ -42,7 +42,7 @@ fn tell_alone(
     Ok(())
 }
 
-/// Tells a bundle: its run and slot with the generals that are held for faulty, its walks and its exhibits.
+/// Tells a bundle: its run and slot with the generals that are assumed faulty, its walks and its exhibits.
 fn tell(bundle: &Bundle, answer: &mut Answer) {
     let header = bundle.header();
     answer.word("run");

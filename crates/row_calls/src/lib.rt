@@ -1,5 +1,5 @@
 //! The calls of rows that need no job: how a row and its answer are written, and what a call of the libraries gives on an
-//! input. docs/ROWS.md says how a row is written and which calls there are. The program `rows` reads the files of rows, and
+//! input. crates/docs/ROWS.md says how a row is written and which calls there are. The program `rows` reads the files of rows, and
 //! has the calls of jobs and of words.
 //!
 //! A module `again` makes one call of the libraries while memory or threads may be refused.

@@ -1,7 +1,7 @@
 //! Rows of cases: what a call of the libraries gives on an input, beside what it should give.
 //!
 //! Standard input has the names of files with rows, one a line; the files lie in the folder that the program is run in.
-//! docs/ROWS.md says how a row is written and which calls there are. The program writes a line for each row whose answer is
+//! crates/docs/ROWS.md says how a row is written and which calls there are. The program writes a line for each row whose answer is
 //! another one than stands in the row, and a line for each file.
 //!
 //! If the word before the last is `again`, the program tries no rows. It makes the call of the libraries that the last word

@@ -35,6 +35,19 @@ abbrev pub Knows : Job → ℕ → List ℕ → Bool → Type 0
 Knows (AccuseReceipts g asked) general input known = ReceiptsKnow general input known
 Knows job general input known = RunsKnow general input known
 
+-- the input spells no bundle and no campaign
+abbrev pub ShowsNoRuns : List ℕ → Type 0
+ShowsNoRuns input = (shown : CampaignBundle) → Spells IsCampaign campaign_spelling input shown → ⊥
+
+-- the input spells no receipts
+abbrev pub AreNoReceipts : List ℕ → Type 0
+AreNoReceipts input = (file : ReceiptFile) → Spells IsReceiptFile file_spelling input file → ⊥
+
+-- the input is none that the job reads
+abbrev pub IsUnknown : Job → List ℕ → Type 0
+IsUnknown (AccuseReceipts g asked) input = AreNoReceipts input
+IsUnknown job input = ShowsNoRuns input
+
 -- the text is an answer, and the general is one of a run's
 abbrev pub AnswersKnown : (Bool → Type 0) → (List ℕ → Bool → Type 0) → List ℕ → Bool → Type 0
 AnswersKnown IsKnown IsAnswer text negative = IsAnswer text negative × IsKnown true

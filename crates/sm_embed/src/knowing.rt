@@ -1,8 +1,8 @@
 //! Makes the answer of a job about a general, and tells if the general is no run's.
-ghost use Rattle.std.specs.Prelude.{◌≡◌, ◌<◌, ◌≤◌, IfSome};
+ghost use Rattle.std.specs.Prelude.{◌≡◌, ◌<◌, ◌≤◌, IfOk, MatchOption};
 ghost use Rattle.gen_asked.specs.Ranges.{IsInRange};
 ghost use Rattle.sm_embed.specs.Among.{MakesAbout, MakesAmongAbout, MakesKnownAsked};
-ghost use Rattle.sm_embed.specs.Knowing.{Knows, MakesKnown, ReceiptsKnow, RunsKnow, is_known};
+ghost use Rattle.sm_embed.specs.Knowing.{AreNoReceipts, IsUnknown, Knows, MakesKnown, ReceiptsKnow, RunsKnow, ShowsNoRuns, is_known};
 ghost use Rattle.sm_embed.specs.Making.{IsMisuse};
 ghost use Rattle.sm_embed.specs.Options.{job_about, wanted_in};
 
@@ -14,9 +14,9 @@ use crate::options::{GeneralTask, SmOptions, job_about, wanted_in};
 use gen_asked::Job;
 use gen_campaign::{CampaignBundle, read_campaign};
 use gen_receipt::read_receipts;
-use gen_types::GeneralNo;
 use gen_types::limits::MOST_GENERALS;
-use std::alloc::Global;
+use gen_types::{GeneralNo, ReadError};
+use std::alloc::{AllocError, Global};
 
 /// The numbers of generals are below this.
 const GENERALS: u32 = MOST_GENERALS as u32;
@@ -32,32 +32,44 @@ fn is_known(general: GeneralNo, shown: &CampaignBundle) -> bool
         .any(|bundle| number < bundle.header().net().generals())
 }
 
-/// Returns whether a general is one of a run that the input shows. None if memory was refused, or the input is no bundle
-/// and no campaign.
-fn runs_know(alloc: Global, general: GeneralNo, input: &[u8]) -> Option<bool>
-    ensures { IfSome result (RunsKnow general input.now) }
+/// Returns whether a general is one of a run that the input shows; None if and only if the input is no bundle and no
+/// campaign.
+fn runs_know(alloc: Global, general: GeneralNo, input: &[u8]) -> Result<Option<bool>, AllocError>
+    ensures { IfOk result (λ known. MatchOption known (ShowsNoRuns input.now)
+        (RunsKnow general input.now)) }
 {
     match read_campaign(alloc, input) {
-        Ok(shown) => Some(is_known(general, &shown)),
-        Err(_) => None,
+        Ok(shown) => Ok(Some(is_known(general, &shown))),
+        Err(ReadError::Memory) => Err(AllocError),
+        Err(ReadError::Fault(_)) => Ok(None),
     }
 }
 
-/// Returns whether a general is one of the run of the receipts in the input. None if memory was refused, or the input is
-/// no receipts.
-fn receipts_know(alloc: Global, general: GeneralNo, input: &[u8]) -> Option<bool>
-    ensures { IfSome result (ReceiptsKnow general input.now) }
+/// Returns whether a general is one of the run of the receipts in the input; None if and only if the input is no receipts.
+fn receipts_know(
+    alloc: Global,
+    general: GeneralNo,
+    input: &[u8],
+) -> Result<Option<bool>, AllocError>
+    ensures { IfOk result (λ known. MatchOption known (AreNoReceipts input.now)
+        (ReceiptsKnow general input.now)) }
 {
     match read_receipts(alloc, input) {
-        Ok(read) => Some(general.get() < read.header.net().generals()),
-        Err(_) => None,
+        Ok(read) => Ok(Some(general.get() < read.header.net().generals())),
+        Err(ReadError::Memory) => Err(AllocError),
+        Err(ReadError::Fault(_)) => Ok(None),
     }
 }
 
-/// Returns whether a general is one of the input that a job reads. None if memory was refused, or the input is no such
-/// input.
-fn knows(alloc: Global, job: &Job, general: GeneralNo, input: &[u8]) -> Option<bool>
-    ensures { IfSome result (Knows job.now general input.now) }
+/// Returns whether a general is one of the input that a job reads; None if and only if the input is no such input.
+fn knows(
+    alloc: Global,
+    job: &Job,
+    general: GeneralNo,
+    input: &[u8],
+) -> Result<Option<bool>, AllocError>
+    ensures { IfOk result (λ known. MatchOption known (IsUnknown job.now input.now)
+        (Knows job.now general input.now)) }
 {
     match job {
         Job::AccuseReceipts {
@@ -86,12 +98,13 @@ fn keep_known(
         return number;
     }
     match knows(alloc, job, general, input) {
-        Some(true) => number,
-        Some(false) => {
+        Ok(Some(true)) => number,
+        Ok(Some(false)) => {
             answer.clear(alloc);
             NOBODY
         }
-        None => {
+        // An input that the job has answered is no unknown one.
+        Ok(None) | Err(_) => {
             answer.clear(alloc);
             MEMORY
         }
@@ -119,12 +132,13 @@ fn keep_known_among(
         return number;
     }
     match knows(alloc, job, general, input) {
-        Some(true) => number,
-        Some(false) => {
+        Ok(Some(true)) => number,
+        Ok(Some(false)) => {
             answer.clear(alloc);
             NOBODY
         }
-        None => {
+        // An input that the job has answered is no unknown one.
+        Ok(None) | Err(_) => {
             answer.clear(alloc);
             MEMORY
         }

@@ -72,7 +72,8 @@ use gen_net::Version;
 use std::alloc::Global;
 
 /// Makes the answer of the verdict on the bundle or the campaign that the input spells, as the command `audit` writes it.
-/// Of the options it uses all three. The facts are those of the verdict.
+/// Of the options it uses the runs or the admission with its system, `strict` and the form. The facts are those of the
+/// verdict.
 #[unsafe(no_mangle)]
 pub extern "C" fn sm_audit(
     alloc: Global,
@@ -87,7 +88,8 @@ pub extern "C" fn sm_audit(
 }
 
 /// Makes the answer of the picture of the bundle or the campaign that the input spells, and of the judgement on it: the
-/// SVG text that the command `draw` writes. It never says no. Of the options it uses the runs.
+/// SVG text that the command `draw` writes. It never says no. Of the options it uses the runs, or the admission with its
+/// system.
 #[unsafe(no_mangle)]
 pub extern "C" fn sm_draw(
     alloc: Global,
@@ -104,7 +106,7 @@ pub extern "C" fn sm_draw(
 /// Makes the answer of the evidence that the bundle or the campaign in the input holds against a general, or that the
 /// receipts in the input hold: the bytes that the command `accuse` writes. If there is none, there are no bytes, and the
 /// answer says no. It returns 6, and nothing is held, if the general is none of the run's. Of the options it uses the runs
-/// and whether the input is receipts.
+/// or the admission with its system, and whether the input is receipts.
 #[unsafe(no_mangle)]
 pub extern "C" fn sm_accuse(
     alloc: Global,
@@ -121,8 +123,8 @@ pub extern "C" fn sm_accuse(
     make_about(alloc, GeneralTask::Accuse, general, input, options, answer)
 }
 
-/// Makes the answer of whether the evidence that the input spells holds, as the command `evidence` writes it. Of the
-/// options it uses the runs and the form: evidence across two runs is of the first.
+/// Makes the answer of whether the evidence that the input spells holds, as the command `evidence` writes it. Evidence
+/// across two runs is of the first. Of the options it uses the runs or the admission with its system, and the form.
 #[unsafe(no_mangle)]
 pub extern "C" fn sm_evidence(
     alloc: Global,
@@ -138,7 +140,8 @@ pub extern "C" fn sm_evidence(
 
 /// Makes the answer of the receipt of a log of a general in the bundle that the input spells: the bytes that the command
 /// `receipt` writes. If no log of the general gives a receipt that holds, there are no bytes, and the answer says no. It
-/// returns 6, and nothing is held, if the general is none of the run's. Of the options it uses the runs.
+/// returns 6, and nothing is held, if the general is none of the run's. Of the options it uses the runs, or the admission
+/// with its system.
 #[unsafe(no_mangle)]
 pub extern "C" fn sm_receipt(
     alloc: Global,
@@ -156,8 +159,8 @@ pub extern "C" fn sm_receipt(
 }
 
 /// Makes the answer of which orders the receipts in the input show, as the command `receipts` writes it. It says no unless
-/// exactly one order is shown. Of the options it uses the runs and the form. The facts are the orders, the receipts and
-/// the generals that two receipts convict.
+/// exactly one order is shown. Of the options it uses the runs or the admission with its system, and the form. The facts
+/// are the orders, the receipts and the generals that two receipts convict.
 #[unsafe(no_mangle)]
 pub extern "C" fn sm_receipts(
     alloc: Global,
@@ -172,7 +175,8 @@ pub extern "C" fn sm_receipts(
 }
 
 /// Makes the answer of what each general without a script decides in the run of the scenario that the input spells, as
-/// the command `decide` writes it. It never says no. Of the options it uses the form. The facts are the decisions.
+/// the command `decide` writes it. It never says no. Of the options it uses the form. An admission must hold and be of its
+/// system, but the run is not compared with it. The facts are the decisions.
 #[unsafe(no_mangle)]
 pub extern "C" fn sm_decide(
     alloc: Global,
@@ -209,9 +213,9 @@ pub extern "C" fn sm_refute(
     }
 }
 
-/// Makes the answer of what a file is, line by line, as the command `show` writes it. Of the options it uses the runs and
-/// the form. If there are runs, the file must be a whole one of them; else it may be any file, and the answer says no if
-/// it is no whole bundle, campaign, evidence or header.
+/// Makes the answer of what a file is, line by line, as the command `show` writes it. Of the options it uses the runs or
+/// the admission with its system, and the form. If there are runs or an admission, the file must be a whole one of these
+/// runs; else it may be any file, and the answer says no if it is no whole bundle, campaign, evidence or header.
 #[unsafe(no_mangle)]
 pub extern "C" fn sm_show(
     alloc: Global,

@@ -54,7 +54,7 @@ abbrev pub AreWalks : BundleWalks → Network → List ℕ → List (List ℕ) �
 AreWalks Best net rest walks = AreBestWalks net rest walks
 AreWalks BestOrNone net rest walks = AreWalksOfRun net rest walks
 
--- such walks between the generals that aren't held for faulty
+-- such walks between the generals that aren't assumed faulty
 abbrev pub AreWalksBeside : BundleWalks → RunHeader → List ℕ → List (List ℕ) → Type 0
 AreWalksBeside wanted h faulty walks =
     (rest : List ℕ) × IsListOf rest (IsLoyal h.network faulty) × AreWalks wanted h.network rest walks
@@ -65,7 +65,7 @@ pub record Gathers (wanted : BundleWalks) (bytes faulty : List ℕ) (h : RunHead
   pub header : header_in bytes ≡ Ok h
   pub walks_are : AreWalksBeside wanted h faulty walks
 
--- the text is the bundle of a header's bytes, the generals that are held for faulty, and logs
+-- the text is the bundle of a header's bytes, the generals that are assumed faulty, and logs
 abbrev pub IsGathered : BundleWalks → List ℕ → List ℕ → List LogBytes → List ℕ → Type 0
 IsGathered wanted bytes faulty logs text =
     (h : RunHeader) × (walks : List (List ℕ)) × Gathers wanted bytes faulty h walks
@@ -77,7 +77,7 @@ fault_of walks.Memory = None
 fault_of (walks.NoWalk pair row) = Some (NoWalk (pair_of pair.a pair.b))
 fault_of (walks.TooLong pair row edges) = Some (LongWalk (pair_of pair.a pair.b))
 
--- best walks are wanted, and two of the generals that aren't held for faulty have no short walk, which is
+-- best walks are wanted, and two of the generals that aren't assumed faulty have no short walk, which is
 -- this fault
 abbrev pub LacksWalks : BundleWalks → RunHeader → List ℕ → GatherFault → Type 0
 LacksWalks wanted h faulty f =
@@ -88,7 +88,7 @@ LacksWalks wanted h faulty f =
 abbrev pub HasNoWalks : BundleWalks → List ℕ → List ℕ → GatherFault → Type 0
 HasNoWalks wanted bytes faulty f = (h : RunHeader) × (header_in bytes ≡ Ok h) × LacksWalks wanted h faulty f
 
--- this fault is why there is no bundle of a header's bytes, the generals that are held for faulty, and logs
+-- this fault is why there is no bundle of a header's bytes, the generals that are assumed faulty, and logs
 abbrev pub IsGatherFault : BundleWalks → List ℕ → List ℕ → List LogBytes → GatherFault → Type 0
 IsGatherFault wanted bytes faulty logs (Header f) = header_in bytes ≡ Err f
 IsGatherFault wanted bytes faulty logs (NoWalk pair) = HasNoWalks wanted bytes faulty (NoWalk pair)

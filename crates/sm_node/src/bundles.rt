@@ -25,7 +25,7 @@ pub struct SmLog {
     pub bytes: usize,
 }
 
-/// Which walks a bundle has between the generals that aren't held for faulty.
+/// Which walks a bundle has between the generals that aren't assumed faulty.
 #[derive(Clone, Copy)]
 pub enum BundleWalks {
     /// Best walks.
@@ -67,7 +67,7 @@ fn logs_in(alloc: Global, logs: &[SmLog], bytes: &[u8]) -> Result<Option<Vec<Exh
     }
 }
 
-/// Returns the walks of a bundle between the generals that aren't held for faulty.
+/// Returns the walks of a bundle between the generals that aren't assumed faulty.
 fn walks_of(
     alloc: Global,
     wanted: BundleWalks,
@@ -90,7 +90,7 @@ fn walks_of(
     }
 }
 
-/// Hands out the bytes of the bundle of a header's bytes, a set of generals that are held for faulty, and the logs in
+/// Hands out the bytes of the bundle of a header's bytes, a set of generals that are assumed faulty, and the logs in
 /// the bytes.
 pub(crate) fn hand_bundle(
     alloc: Global,

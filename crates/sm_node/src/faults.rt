@@ -64,8 +64,8 @@ pub enum StartFault {
     UsedSlot,
 }
 
-/// Why there is no bundle of a header's bytes, the generals that are held for faulty, and logs. A pair is the least of
-/// the generals that aren't held for faulty and have no walk that is short enough.
+/// Why there is no bundle of a header's bytes, the generals that are assumed faulty, and logs. A pair is the least of
+/// the generals that aren't assumed faulty and have no walk that is short enough.
 #[derive(Clone, Copy, Debug, PartialEq, Eq)]
 pub enum GatherFault {
     /// The bytes of the header have this fault.

@@ -7,11 +7,14 @@
 //! |---|---|
 //! | 0 | it was done |
 //! | 1 | it was done, and the answer is a no |
-//! | 2 | the call may not be made in this way, and nothing was changed |
-//! | 3 | what was handed in has a fault, whose number is told, and nothing was changed |
+//! | 2 | the call may not be made in this way |
+//! | 3 | what was handed in has a fault, whose number is told |
 //! | 4 | memory was refused: the same call may be made again |
-//! | 5 | the room is too short, and the length that is needed is told; nothing was changed |
+//! | 5 | the room is too short, and the length that is needed is told |
 //! | 7 | what was handed in is of another run or system |
+//!
+//! At 2, 3 and 5 the node, the keys and the room stay as they were. A count is the number of bytes at 0 and 5, and 0 at
+//! any other number. The number of a fault is 0 at any number but 3.
 //!
 //! No function keeps anything outside the node that it was handed, starts a thread, waits for one, prints, or ends the
 //! process. The contract of each function says what each `NodeReply` means for it, and what goes with it, as `Begins` does.
@@ -308,7 +311,7 @@ pub extern "C" fn sm_node_free(alloc: Global, node: &mut SmNode)
 /// Hands out the bytes of the bundle of a run. Its parts are the header's bytes, the set of the generals that are held
 /// for faulty (bit g for general g), walks between the others, and the collected logs. The logs stand one after another
 /// in `bytes`, in ascending order of their generals. It is misuse if the set has a general above 15, or if `bytes` are
-/// not exactly these logs. If two generals that aren't held for faulty have no short walk, the least such pair is told;
+/// not exactly these logs. If two generals that aren't assumed faulty have no short walk, the least such pair is told;
 /// but if `parted` is not 0, the bundle then has no walks. The audit finds that.
 #[unsafe(no_mangle)]
 pub extern "C" fn sm_node_bundle(

@@ -7,13 +7,13 @@ ghost use Rattle.sm_node.specs.NodeReply.{status_of};
 pub enum NodeReply {
     /// It was done.
     Done,
-    /// The call may not be made in this way: nothing was changed.
+    /// The call may not be made in this way: the node, the keys and the room stay.
     Misuse,
-    /// What was handed in has a fault, whose number is told: nothing was changed.
+    /// What was handed in has a fault, whose number is told: the node, the keys and the room stay.
     Fault,
     /// Memory was refused: the same call may be made again.
     Memory,
-    /// The room is too short, and the length that is needed is told.
+    /// The room is too short, and the length that is needed is told: the node and the room stay.
     Length,
 }
 

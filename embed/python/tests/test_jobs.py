@@ -124,7 +124,7 @@ class Jobs(unittest.TestCase):
         verdict = vamuretu.audit((EXAMPLES / "split.bundle").read_bytes())
         self.assertEqual((verdict.generals, verdict.traitors, verdict.faulty), (3, 1, (0,)))
         self.assertEqual((verdict.order, verdict.convictions), (0, (vamuretu.Conviction(0, 2),)))
-        self.assertEqual(verdict.statuses, ("convicted", "trusted", "trusted"))
+        self.assertEqual(verdict.statuses, ("convicted", "nothing found", "nothing found"))
 
     def test_runs(self):
         bundle, series, found = ((EXAMPLES / name).read_bytes() for name in ("split.bundle", "series.bundles", "split.evidence"))

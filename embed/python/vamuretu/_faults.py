@@ -43,9 +43,9 @@ class NodeFault(enum.IntEnum):
     F7 = 27
     F8 = 28
     U1 = 31
-    """Two nodes that are not held for faulty have no walk."""
+    """Two nodes that are not assumed faulty have no walk."""
     U2 = 32
-    """Two nodes that are not held for faulty have no walk of at most d edges."""
+    """Two nodes that are not assumed faulty have no walk of at most d edges."""
     B1 = 41
     B2 = 42
     B3 = 43
@@ -104,12 +104,12 @@ _TEXTS = {
     NodeFault.F6: "the frame is of another run",
     NodeFault.F7: "the frame is of another round",
     NodeFault.F8: "the frame has another sender or receiver",
-    NodeFault.U1: "two generals that are not held for faulty have no walk",
-    NodeFault.U2: "two generals that are not held for faulty have no walk of at most d edges",
+    NodeFault.U1: "two generals that are not assumed faulty have no walk",
+    NodeFault.U2: "two generals that are not assumed faulty have no walk of at most d edges",
     NodeFault.B1: "the bytes end before the bundle does",
     NodeFault.B2: "the first four bytes are neither SMB1 nor SMB2",
     NodeFault.B3: "the header of the bundle breaks a rule",
-    NodeFault.B4: "a general is held for faulty that the header does not have",
+    NodeFault.B4: "a general is assumed faulty that the header does not have",
     NodeFault.B5: "there are more than 120 walks, or a walk has not 2 to 16 generals",
     NodeFault.B6: "a walk is none between two generals, or stands out of order",
     NodeFault.B7: "there are more than 64 logs, or a log is of a general that the header does not have",
@@ -160,7 +160,7 @@ class EqualRoots(InputFault):
 
 
 class NoWalk(InputFault):
-    """Two nodes (generals) that are not held for faulty have no walk (U1), or none of at most d edges (U2). `generals` are
+    """Two nodes (generals) that are not assumed faulty have no walk (U1), or none of at most d edges (U2). `generals` are
     the two, the lesser one first. No lesser pair has.
     """
 

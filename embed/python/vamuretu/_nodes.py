@@ -261,7 +261,7 @@ def _set_of(generals: Iterable[int]) -> int:
 def bundle(
     header: Header, faulty: Iterable[int], logs: Iterable[Tuple[int, Bytes]], *, parted: bool = False
 ) -> bytes:
-    """The bundle of a run: its header, the nodes (generals) that are held for faulty, and the logs that were
+    """The bundle of a run: its header, the nodes (generals) that are assumed faulty, and the logs that were
     collected.
 
     A log comes with the node that it is said to be of, ascending, and several may be of one node. The walks between

@@ -8,7 +8,7 @@ from typing import Any, Dict, FrozenSet, List, Optional, Sequence, Tuple, Union
 
 
 class Kind(str, enum.Enum):
-    """What a verdict says. AGREED: nothing is found, and at most m nodes are held for faulty. EXPLAINED: nothing is
+    """What a verdict says. AGREED: nothing is found, and at most m nodes are assumed faulty. EXPLAINED: nothing is
     found, and more than m are. It promises no agreement. NO: something is found. A kind is the word of the text too:
     `Kind.AGREED == "agreed"`.
     """
@@ -23,13 +23,13 @@ class Kind(str, enum.Enum):
 
 class Status(str, enum.Enum):
     """The status of a node (general) in a verdict: the first of these that fits. A conviction of this run names the node;
-    the node is held for faulty; a finding N1 to N9 names it; none of these. A status is its word too.
+    the node is assumed faulty; a finding N1 to N9 names it; none of these. A status is its word too.
     """
 
     CONVICTED = "convicted"
-    HELD = "held for faulty"
+    HELD = "assumed faulty"
     SUSPECTED = "suspected"
-    TRUSTED = "trusted"
+    NOTHING_FOUND = "nothing found"
 
     def __str__(self) -> str:
         return self.value
@@ -171,7 +171,7 @@ class SystemRun:
 class Verdict:
     """The verdict on one run. AGREED has an order, EXPLAINED has decisions, and NO has findings.
 
-    `generals` is n, `traitors` is m, and `faulty` are the nodes (generals) that are held for faulty, F. `statuses` has one
+    `generals` is n, `traitors` is m, and `faulty` are the nodes (generals) that are assumed faulty, F. `statuses` has one
     status for each node. `equal_roots` are the pairs of nodes with the same root. `system_run` is the run of a system, if it
     was asked by an admission.
     """

@@ -440,7 +440,7 @@ mod tests {
         assert_eq!((&verdict.said, split.is_no(), split.is_agreed()), (&Said::Agreed(0), false, true));
         assert_eq!((verdict.generals, verdict.traitors, &verdict.faulty[..]), (3, 1, &[0][..]));
         assert_eq!(verdict.convictions, [Conviction { general: 0, kind: 2 }]);
-        assert_eq!(verdict.statuses, [Status::Convicted, Status::Trusted, Status::Trusted]);
+        assert_eq!(verdict.statuses, [Status::Convicted, Status::NothingFound, Status::NothingFound]);
         let disputed = judge(&[], DISPUTED).expect("a verdict");
         assert!(disputed.is_no() && matches!(&disputed.runs()[0].said, Said::No(found) if !found.is_empty()));
         let series = judge(&[], include_bytes!("../../../examples/series.bundles")).expect("a verdict");

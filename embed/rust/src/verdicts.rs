@@ -223,7 +223,7 @@ pub enum Status {
     /// One of the findings N1 to N9 names the node.
     Suspected,
     /// None of these.
-    Trusted,
+    NothingFound,
 }
 
 /// What a verdict says.
@@ -299,7 +299,7 @@ impl Verdict {
 impl Status {
     /// The status of a number.
     fn of(number: u32) -> Option<Status> {
-        let all = [Status::Convicted, Status::Held, Status::Suspected, Status::Trusted];
+        let all = [Status::Convicted, Status::Held, Status::Suspected, Status::NothingFound];
         all.get(usize::try_from(number).ok()?.checked_sub(1)?).copied()
     }
 }

@@ -299,7 +299,7 @@ mod tests {
             "number":5,"run":"aa"}],"system":"5e"},"input":{"bytes":9,"sha256":"dd"},"runs":[{"convictions":[{"general":0,
             "id":"K2"}],"equal_roots":[[0,1]],"faulty":[0,1],"findings":[],"logs":[{"general":1,"order":null}],"network":
             {"generals":3,"traitors":1},"order":null,"run":"aa","statuses":[{"general":0,"status":"convicted"},{"general":1,
-            "status":"held for faulty"},{"general":2,"status":"suspected"}],"verdict":"no"}]}"#;
+            "status":"assumed faulty"},{"general":2,"status":"suspected"}],"verdict":"no"}]}"#;
         let told = Answer::read(json.into(), "campaign 1\nrun aa\nverdict no\nN1 general 0\nend\n").expect("an answer");
         let run = &told.runs[0];
         assert_eq!(

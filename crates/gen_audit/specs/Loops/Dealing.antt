@@ -1,21 +1,15 @@
--- Pieces dealt to workers in turn. There are last + 1 workers.
-use Rattle.std.specs.Prelude.{ℕ, zero, suc, List, [], ◌∷◌}
+-- The shares of exhibits that workers take.
+use Rattle.std.specs.Prelude.{ℕ, suc, List, [], ◌∷◌, slice_index_or}
+use Rattle.std.specs.List.{flat_map}
+use Rattle.gen_log.specs.Writing.{LogBytes}
 
--- the pieces of a worker whose turn comes after that of k others
-abbrev pub dealt : {X : Type 0} → ℕ → ℕ → List X → List X
-dealt last k [] = []
-dealt last zero (x ∷ xs) = x ∷ dealt last last xs
-dealt last (suc k) (x ∷ xs) = dealt last k xs
+-- the exhibits of all shares
+abbrev pub all_of : List (List LogBytes) → List LogBytes
+all_of shares = flat_map (λ share. share) shares
 
--- the piece, if no other worker's turn comes first; and the number of workers whose turn comes first after
--- this piece
-abbrev pub gets : {X : Type 0} → ℕ → X → List X
-gets zero x = x ∷ []
-gets (suc k) x = []
-
-abbrev pub turn_after : ℕ → ℕ → ℕ
-turn_after last zero = last
-turn_after last (suc k) = k
+-- the share of a worker, counted from 0; nothing, if there are fewer shares
+abbrev pub share_at : List (List LogBytes) → ℕ → List LogBytes
+share_at shares worker = slice_index_or shares worker []
 
 -- each element has the property of its index, counted from k
 abbrev pub Each : {X : Type 0} → (ℕ → X → Type 0) → ℕ → List X → Type 0

@@ -5,23 +5,22 @@ use Rattle.gen_net.specs.Header.{RunHeader}
 use Rattle.gen_log.specs.Writing.{LogBytes}
 use Rattle.gen_audit.specs.declared.hands.Hand.{Hand}
 use Rattle.gen_audit.specs.declared.promises.ReportsAs.{ReportsAs}
-use Rattle.gen_audit.specs.Loops.Dealing.{Each}
-use Rattle.gen_audit.specs.Loops.Hands.{AreOfWorker}
+use Rattle.gen_audit.specs.Loops.Dealing.{share_at, Each}
+use Rattle.gen_audit.specs.Loops.Hands.{IsOfWorker}
 
-module _ (h : RunHeader) (exhibits : List LogBytes) (last : ℕ) where
-  pub record IsPromise (worker : ℕ) (p : ReportsAs) : Type 0 where
-    pub its_header : p.header.now ≡ h
-    pub its_exhibits : p.exhibits.now ≡ exhibits
-    pub its_last : p.last ≡ last
-    pub its_worker : p.worker ≡ worker
+-- the promise is that of a share under a header
+pub record IsPromise (h : RunHeader) (share : List LogBytes) (p : ReportsAs) : Type 0 where
+  pub its_header : p.header.now ≡ h
+  pub its_share : p.share.now ≡ share
 
+module _ (h : RunHeader) (shares : List (List LogBytes)) where
   -- the handles promise the hands of all workers but the first
   abbrev pub ArePromised : List (PromisedHandle (Option Hand) ReportsAs) → Type 0
-  ArePromised handles = Each (λ k handle. IsPromise k handle.promise) 1 handles
+  ArePromised handles = Each (λ k handle. IsPromise h (share_at shares k) handle.promise) 1 handles
 
   -- these are the hands of the first workers
   abbrev pub HandsFrom : List Hand → Type 0
-  HandsFrom hands = Each (λ k hand. AreOfWorker h exhibits last k hand.reports.items) 0 hands
+  HandsFrom hands = Each (λ k hand. IsOfWorker h shares k hand) 0 hands
 
   -- what the first n workers came to: all have a hand, and these are their hands; or hands are missing
   abbrev pub AreJoined : ℕ → Bool → List Hand → Type 0

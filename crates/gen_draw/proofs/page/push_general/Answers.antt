@@ -8,8 +8,8 @@ pub returns-in_ok-push_life : goal.returns-in_ok-push_life
 unfolding general_line
 returns-in_ok-push_life c =
     rw (c.if-held.true, ← c.row_of.ensures.value)
-    (behind _ (string_bytes c.args.out.now) (codes "<g class=\"faulty\"><title>general " ++ (decimal c.args.general ++ codes " is held for faulty</title>")) _
-    (life_of c.args.grid c.args.general ++ (codes "<text x=\"16\" y=\"" ++ (decimal (c.row_of.result + 16) ++ codes "\">held for faulty</text></g>\n"))) _
+    (behind _ (string_bytes c.args.out.now) (codes "<g class=\"faulty\"><title>general " ++ (decimal c.args.general ++ codes " is assumed faulty</title>")) _
+    (life_of c.args.grid c.args.general ++ (codes "<text x=\"16\" y=\"" ++ (decimal (c.row_of.result + 16) ++ codes "\">assumed faulty</text></g>\n"))) _
     c.in_ok-write.ensures.bytes
-    (behind _ _ (life_of c.args.grid c.args.general) _ (codes "<text x=\"16\" y=\"" ++ (decimal (c.row_of.result + 16) ++ codes "\">held for faulty</text></g>\n")) _
+    (behind _ _ (life_of c.args.grid c.args.general) _ (codes "<text x=\"16\" y=\"" ++ (decimal (c.row_of.result + 16) ++ codes "\">assumed faulty</text></g>\n")) _
     c.in_ok-push_life.ensures c.write-then-held.ensures.bytes))

@@ -3,7 +3,7 @@ use Rattle.std.specs.List.{list_any}
 use Rattle.gen_types.specs.Ends.{is_among}
 use Rattle.gen_match.specs.declared.finding.Finding.{Finding}
 use Rattle.gen_convict.specs.Evidence.{Accusation, told_of}
-use Rattle.gen_facts.specs.declared.statuses.Status.TheVariants.{Convicted, Held, Suspected, Trusted}
+use Rattle.gen_facts.specs.declared.statuses.Status.TheVariants.{Convicted, Held, Suspected, NothingFound}
 use Rattle.gen_facts.specs.Statuses.{names, status_of}
 use Rattle.gen_facts.proofs.Held.{held}
 use Rattle.gen_facts.proofs.statuses.status_of.Goals as goal
@@ -11,7 +11,7 @@ use Rattle.gen_facts.proofs.statuses.status_of.Goals as goal
 -- the status by the three tests
 tested : (faulty : List ℕ) (findings : List Finding) (convictions : List Accusation) (g : ℕ) (is_convicted is_held is_named : Bool)
     → is_convicted ≡ list_any (λ x. x.accused == g) convictions → is_held ≡ is_among faulty g → is_named ≡ list_any (names g) findings
-    → (if is_convicted then Convicted else (if is_held then Held else (if is_named then Suspected else Trusted))) ≡ status_of faulty findings convictions g
+    → (if is_convicted then Convicted else (if is_held then Held else (if is_named then Suspected else NothingFound))) ≡ status_of faulty findings convictions g
 tested faulty findings convictions g is_convicted is_held is_named a b c = rw (a, b, c) refl
 
 pub returns-then-contains : goal.returns-then-contains

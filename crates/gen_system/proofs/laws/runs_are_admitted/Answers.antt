@@ -1,9 +1,14 @@
-use Rattle.std.proofs.Common.{◌∙◌, refl, sym}
+use Rattle.std.proofs.Common.{◌∙◌, refl, sym, subst}
+use Rattle.gen_net.specs.Header.{IsHeader}
+use Rattle.gen_system.proofs.Lawful.{lawful}
 use Rattle.gen_system.proofs.TwoHeaders.{admitted_below, number_is}
 use Rattle.gen_system.proofs.laws.runs_are_admitted.Goals as goal
 
 pub returns-clause-below : goal.returns-clause-below
 returns-clause-below c = λ id run h a is admits. admitted_below run a is admits.set
+
+pub returns-clause-lawful : goal.returns-clause-lawful
+returns-clause-lawful c = λ id run h a is admits. subst IsHeader (sym admits.of_run) (lawful a run is)
 
 pub returns-clause-own : goal.returns-clause-own
 returns-clause-own c = λ run a holds set. record { system = refl; set = set; holds = holds; of_run = refl }

@@ -1,6 +1,6 @@
 use Rattle.std.proofs.Common.{◌++◌, ◌∙◌, sym, ap, append_assoc}
 use Rattle.gen_audit.proofs.Reporting.{both_reports}
-use Rattle.gen_audit.proofs.working.work_on.Goals as goal
+use Rattle.gen_audit.proofs.working.work.Goals as goal
 
 pub turns-preserved : goal.turns-preserved
 turns-preserved g c =
