@@ -5,8 +5,11 @@ machine and for aarch64. For aarch64 the archives, and perhaps the program, are 
 of out/aarch64/, as ./test leaves them; of what is not there a line says so. Actuators answer receipts, whole and bent, as those of
 this machine. Four nodes as processes over UDP make the logs of the scenario. Where the library of judging is there, its examples
 answer as the program of this machine does, on all examples and on what comes of scenarios; so does the program for aarch64, on all
-examples and on the vectors that are not large, and with threads and workers. Two clones make the same archive and package for
-arm64, byte for byte, of what is there, with stand-ins for what is not. A wheel is named by the processor of its libraries.
+examples and on the vectors that are not large, and with threads and workers. Where the program vamuretu for aarch64 is there, four
+nodes and a watcher go the way of docs/SYSTEM.md by it. Two clones make the same archive and package for arm64, byte for byte, of
+what is there, with stand-ins for what is not. A wheel is named by the processor of its libraries.
+
+arm64_debian.py does what takes longer: the package in a Debian of arm64, and other subjects there.
 
 Emulation on x86-64 shows no fault of an order of memory that x86-64 does not have. Without the cross compiler or the emulator all
 but the first part is left out, and a line says so.
@@ -23,6 +26,7 @@ from bends import bend_receipts
 from datagrams import ALL, SILENT, Direct
 from draws import Draws
 from embed import EMBED, TOP, WARNINGS, IsNotBuilt, do, example_cases, first_wrong, kept_cases, words_of
+from going_on import follow
 from pinned import answer_of, read, runs_of
 from processes import ARCHIVE, OF_C, try_system
 from programs import End, by_library, differs, run, side_by_side
@@ -37,6 +41,9 @@ from version import short, version  # noqa: E402
 AARCH64 = target_of("aarch64")
 FOLDER = os.environ.get("VAMURETU_AARCH64") or os.path.join(TOP, AARCH64.folder)
 EMULATOR, SYSROOT = "qemu-aarch64-static", f"/usr/{AARCH64.before[:-1]}"
+# Where the shared libraries are that a program for aarch64 wants: the C library of the cross compiler, and Debian's others.
+SHARED = f"{SYSROOT}/lib:{os.environ.get('PKG_CONFIG_SYSROOT_DIR', '')}/usr/lib/{AARCH64.before[:-1]}"
+EMULATED = [EMULATOR, "-L", SYSROOT, "-E", f"LD_LIBRARY_PATH={SHARED}"]
 CROSS = [AARCH64.cc(), *OF_C[1:], "-static"]
 # By the head of bare.c, with the compiler's own headers alone.
 BARE = ["-std=c11", "-O2", *WARNINGS, "-ffreestanding", "-nostdlib", "-nostdinc", "-static", "-fno-stack-protector"]
@@ -143,7 +150,7 @@ def try_judging(program, tally, folder):
 
 def try_program(program, tally, folder):
     """The program for aarch64 beside that of this machine."""
-    other = script(folder, "sm_tool", EMULATOR, "-L", SYSROOT, os.path.join(FOLDER, "sm_tool"))
+    other = script(folder, "sm_tool", *EMULATED, os.path.join(FOLDER, "sm_tool"))
     paths = [it for part in ("examples/*", "trials/cases/*", "reference/vectors/*") for it in sorted(glob.glob(os.path.join(TOP, part)))]
     given = []
     for path in paths:
@@ -154,6 +161,22 @@ def try_program(program, tally, folder):
     wanted = side_by_side(lambda case: run(program, *case), cases)
     tally.hold("the program", first_wrong(lambda words, it: run(other, words, it), cases, wanted))
     tally.count(2 * len(cases))
+
+
+def try_going_on(_, tally, folder):
+    """A system that goes on, by the program vamuretu for aarch64."""
+    if not os.path.exists(os.path.join(FOLDER, "sm_tool")):
+        tally.note("left out: the program for aarch64, so no system that goes on")
+        return
+    programs = os.path.join(folder, "programs")
+    os.mkdir(programs)
+    for name in ("sm_tool", "vamuretu"):
+        script(programs, name, *EMULATED, os.path.join(FOLDER, name))
+    end = run(os.path.join(programs, "vamuretu"), ["--version"])
+    if end.status:
+        tally.fail(f"vamuretu for aarch64: {end}")
+        return
+    follow(tally, programs, TOP)
 
 
 def kept_for(folder, place):
@@ -275,6 +298,7 @@ def try_all(program, tally, folder):
     try_actuator(program, tally, folder)
     try_nodes(program, tally, folder)
     parts = {archive("sm_embed"): try_judging, os.path.join(FOLDER, "sm_tool"): try_program}
+    parts |= {os.path.join(FOLDER, "vamuretu"): try_going_on}
     for path, part in parts.items():
         if os.path.exists(path):
             part(program, tally, folder)

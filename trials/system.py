@@ -3,8 +3,9 @@
 
     trials/system.py PROGRAM
     trials/system.py reference
+    trials/system.py installed
 
-tries this alone, by a program, or with the reference (reference/sm.py) in the place of the program.
+tries this alone, by a program, with the reference (reference/sm.py) in the place of the program, or by what the package has installed.
 
 The commands are run one after another by `sh` in a folder of a short name, which has a copy of embed/, the archive of nodes as
 libsm_node.a, and the program as `sm_tool`. Those of the system that goes on have a folder of their own, with `vamuretu` too, where
@@ -17,10 +18,11 @@ import shutil
 import socket
 import sys
 import tempfile
+from typing import NamedTuple
 
 from cargo_built import build_program
 from datagrams import free_addresses
-from going_on import SECTION, follow
+from going_on import INSTALLED, SECTION, follow
 from processes import ARCHIVE, MOST_TRIES
 from programs import commands_of
 from tally import Tally
@@ -36,25 +38,37 @@ PORT = " 4000"
 REFERENCE = '#!/bin/sh\nexec {} -B {} "$@"\n'
 
 
-def fill(place, program):
+class Given(NamedTuple):
+    """What the commands find: the program or the word `reference`, the folder that has embed/ and the examples, and the archive."""
+
+    program: str
+    documents: str = os.path.abspath(TOP)
+    archive: str = os.path.abspath(ARCHIVE)
+
+
+# What the package has installed.
+OF_PACKAGE = Given("/usr/bin/sm_tool", INSTALLED, "/usr/lib/libsm_node.a")
+
+
+def fill(place, given):
     """Puts into a folder what the commands find there."""
-    shutil.copytree(os.path.join(TOP, "embed"), os.path.join(place, "embed"))
-    os.symlink(os.path.abspath(ARCHIVE), os.path.join(place, "libsm_node.a"))
+    shutil.copytree(os.path.join(given.documents, "embed"), os.path.join(place, "embed"))
+    os.symlink(given.archive, os.path.join(place, "libsm_node.a"))
     os.mkdir(os.path.join(place, "bin"))
     named = os.path.join(place, "bin", "sm_tool")
-    if program != "reference":
-        os.symlink(program, named)
+    if given.program != "reference":
+        os.symlink(given.program, named)
         return
     with open(os.open(named, os.O_CREAT | os.O_WRONLY, 0o755), "w", encoding="utf-8") as script:
         script.write(REFERENCE.format(sys.executable, os.path.join(os.path.abspath(TOP), "reference", "sm.py")))
 
 
-def ends(program, factor):
+def ends(given, factor):
     """Each command of the document with what it printed and what it should print; none if a process was late."""
     rows = []
     port = free_addresses([socket.AF_INET])[0][1]
     with tempfile.TemporaryDirectory(dir="/tmp") as place:
-        fill(place, program)
+        fill(place, given)
         for command, wanted in shown(DOCUMENT, without=SECTION):
             got = printed_by(command.replace(ROUND, f" {1000 * factor} ").replace(PORT, f" {port}"), place)
             if LATE in got:
@@ -63,27 +77,35 @@ def ends(program, factor):
     return rows
 
 
-def go_on(program, tally):
-    """The system that goes on, from the examples of the checkout."""
-    nodes = build_program(tally) if program != "reference" else None
+def go_on(given, tally):
+    """The system that goes on, by the programs of the package, or by those of the checkout."""
+    if given == OF_PACKAGE:
+        follow(tally, os.path.dirname(given.program), given.documents)
+        return
+    nodes = build_program(tally) if given.program != "reference" else None
     if nodes is None:
         return
     with tempfile.TemporaryDirectory() as folder:
-        for name, path in (("sm_tool", program), ("vamuretu", nodes)):
+        for name, path in (("sm_tool", given.program), ("vamuretu", nodes)):
             os.symlink(path, os.path.join(folder, name))
-        follow(tally, folder, os.path.abspath(TOP))
+        follow(tally, folder, given.documents)
 
 
 def trials(program, tally):
-    go_on(program, tally)
-    if not os.path.exists(ARCHIVE) or not shutil.which("cc"):
-        tally.note("left out: cc or crates/sm_node/out/libsm_node.a is not there")
+    try_by(Given(program), tally)
+
+
+def try_by(given, tally):
+    """The whole way, by what is given."""
+    go_on(given, tally)
+    if not os.path.exists(given.archive) or not shutil.which("cc"):
+        tally.note(f"left out: cc or {given.archive} is not there")
         return
     if not COMMANDS <= tally.commands:
         tally.note(f"left out: the program has no {', '.join(sorted(COMMANDS - tally.commands))}")
         return
     for tried in range(MOST_TRIES):
-        rows = ends(program, 1 << tried)
+        rows = ends(given, 1 << tried)
         if rows is None:
             continue
         for command, got, wanted in rows:
@@ -96,9 +118,10 @@ def trials(program, tally):
 def main():
     if len(sys.argv) != 2:
         sys.exit(__doc__)
-    program = sys.argv[1] if sys.argv[1] == "reference" else os.path.abspath(sys.argv[1])
-    tally = Tally("system", COMMANDS if program == "reference" else commands_of(program))
-    trials(program, tally)
+    word = sys.argv[1]
+    given = OF_PACKAGE if word == "installed" else Given(word if word == "reference" else os.path.abspath(word))
+    tally = Tally("system", COMMANDS if word == "reference" else commands_of(given.program))
+    try_by(given, tally)
     tally.close()
     return 1 if tally.failed else 0
 
