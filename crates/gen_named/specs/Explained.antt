@@ -1,6 +1,6 @@
--- When one run of values explains the logs of the rest, each of which is written under its general's own names:
--- exactly where each is a follower's log of versions 1 and 2, the logs match by their values, and what comes from
--- the faulty derives.
+-- When one run of values explains the logs of the rest, each of which is written under its general's own
+-- names: exactly where each is a follower's log of versions 1 and 2, the logs match by their values, and what
+-- comes from the faulty derives.
 use Rattle.std.specs.Prelude.{ℕ, ◌≡◌, ◌≢◌, ◌<◌, ◌≤◌, ◌↔◌, ◌⊎◌, List, [], ◌∷◌, ◌++◌, length, Contains, All, Some}
 use Rattle.gen_types.specs.Ends.{BeginsWith}
 use Rattle.gen_net.specs.Network.{Network, IsLoyal}
@@ -9,7 +9,8 @@ use Rattle.gen_net.specs.Log.{LogEntry, Started, Sent, Received, Keeps}
 use Rattle.gen_net.specs.Departs.{IsFollowersLog}
 use Rattle.gen_named.specs.Named.{Names, IsName, AreNames, Part, IsNamedRun}
 
--- a run of values exists in which everybody of the rest follows under these names and keeps exactly these logs
+-- a run of values exists in which everybody of the rest follows under these names and keeps exactly these
+-- logs
 pub record RunExists (bound : ℕ) (net : Network) (faulty : List ℕ) (names : ℕ → Names)
     (logs : ℕ → List LogEntry) : Type 0 where
   pub run : Run

@@ -1,5 +1,6 @@
 -- Runs about values of any number. A general has names of its own for at most two values: the orders 1 and 2.
--- Under its names it follows the algorithm of versions 1 and 2 over three orders, of which order 0 is RETREAT.
+-- Under its names it follows the algorithm of versions 1 and 2 over three orders, of which order 0 is
+-- RETREAT.
 use Rattle.std.specs.Prelude.{ℕ, ◌≡◌, ◌≢◌, ◌<◌, ◌≤◌, ◌↔◌, ◌⊎◌, List, Contains, Option, Some}
 use Rattle.gen_net.specs.Network.{Network, IsLoyal}
 use Rattle.gen_net.specs.declared.message.Message.{Message}
@@ -39,8 +40,8 @@ pub record AreNames (bound : ℕ) (names : Names) : Type 0 where
 abbrev pub about : ℕ → Message → Message
 about v m = record { from = m.from; to = m.to; order = v; path = m.path }
 
--- What g sends and what comes to it, under its names: a message of an order is one of the value that the order
--- stands for. A value that has no name is left out of what comes; g sends none.
+-- What g sends and what comes to it, under its names: a message of an order is one of the value that the
+-- order stands for. A value that has no name is left out of what comes; g sends none.
 pub record IsView (names : Names) (run : Run) (g : ℕ) (mine : Run) : Type 0 where
   pub sent : (m : Message) (i v : ℕ) → m.from ≡ g → names i ≡ Some v
       → Contains mine (about i m) ↔ Contains run (about v m)
@@ -75,14 +76,15 @@ pub record FollowsNamed (bound : ℕ) (net : Network) (run : Run) (g : ℕ) (par
   pub follows : Follows net part.mine g part.conduct
   pub room : (l v : ℕ) → OrderArrives run g l v → HasName part.names v ⊎ IsFull part.mine g l
 
--- a lieutenant decides the value that the order stands for on which it decides under its names; None is RETREAT
+-- a lieutenant decides the value that the order stands for on which it decides under its names; None is
+-- RETREAT
 abbrev pub DecidesValue : Network → ℕ → Part → Option ℕ → Type 0
 DecidesValue net g part decision =
     (orders : List ℕ) × (order : ℕ) × LieutenantDecides net part.mine g orders order
     × (decision ≡ part.names order)
 
--- A run of values for a set of faulty generals: each of the rest follows under its names, and every message from
--- a faulty general is derivable.
+-- A run of values for a set of faulty generals: each of the rest follows under its names, and every message
+-- from a faulty general is derivable.
 pub record IsNamedRun (bound : ℕ) (net : Network) (faulty : List ℕ) (run : Run) (parts : ℕ → Part)
     : Type 0 where
   pub run_of_net : IsRun (over bound net) run
@@ -90,7 +92,8 @@ pub record IsNamedRun (bound : ℕ) (net : Network) (faulty : List ℕ) (run : R
   pub derivable : (message : Message) → Contains run message → Contains faulty message.from
       → IsDerivable net faulty run message
 
--- what comes to g, under its names: each message of a named value, and no value is left out before both names came
+-- what comes to g, under its names: each message of a named value, and no value is left out before both names
+-- came
 pub record Hears (names : Names) (run : Run) (g : ℕ) (mine : Run) : Type 0 where
   pub arrived : (m : Message) (i v : ℕ) → m.to ≡ g → names i ≡ Some v
       → Contains mine (about i m) ↔ Contains run (about v m)

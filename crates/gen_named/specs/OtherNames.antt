@@ -1,6 +1,7 @@
--- A run with a traitor in which no value has a name at both lieutenants. There are three generals, all neighbours, and
--- the commander is faulty: it gives values 0 and 1 to general 1, and values 2 and 3 to general 2. Each lieutenant names
--- its two values, and relays them in round 2. What the other relays comes when both names are given.
+-- A run with a traitor in which no value has a name at both lieutenants. There are three generals, all
+-- neighbours, and the commander is faulty: it gives values 0 and 1 to general 1, and values 2 and 3 to
+-- general 2. Each lieutenant names its two values, and relays them in round 2. What the other relays comes
+-- when both names are given.
 use Rattle.std.specs.Prelude.{ℕ, ◌≡◌, ◌+◌, ◌==◌, if◌then◌else◌, ◌⊎◌, [], ◌∷◌, Some, None}
 use Rattle.gen_types.specs.declared.choices.ChoiceKind.TheVariants.{Only}
 use Rattle.gen_net.specs.Network.{Network}
