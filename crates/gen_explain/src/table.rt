@@ -189,7 +189,7 @@ text head|text F head of G entries K link L|The F text is the head of a log of g
 departs|departs entry I|The log of the accused departs from the algorithm with entry I, counted from 0.\n\
 receipt I|receipt I of G entries K link L set S order V|Receipt I, counted from 0, says that general G decided order V of the orders S, with K entries and the link L.\n\
 format F version E|format F version E|The format is F, of version E.\n\
-system id|system id S|The id of the system is S: compare it with one that you know.\n\
+system id|system id S|The id of the system is S: compare it with an id that you know.\n\
 proposer first|proposer first|Node 0 proposes in each run.\n\
 turns|proposer turns|Each node proposes in its turn.\n\
 levels H|levels H|A node has 2 to the power of H sets of keys.\n\

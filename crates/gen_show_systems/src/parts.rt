@@ -4,14 +4,14 @@ ghost use Rattle.std.specs.Int.{w32};
 ghost use Rattle.gen_types.specs.Bytes.{number_at};
 ghost use Rattle.gen_net.specs.Header.{run_id_of};
 ghost use Rattle.gen_system.specs.Admitting.{header_of_run};
-ghost use Rattle.gen_system.specs.Runs.{runs_of_set};
+ghost use Rattle.gen_system.specs.Runs.{run_count_of, runs_of_set};
 ghost use Rattle.gen_show_systems.specs.AdmissionText.{set_runs};
 ghost use Rattle.gen_show_systems.specs.RootsText.{version_of_trees};
 ghost use Rattle.gen_show_systems.specs.Showing.{behind_mark};
 ghost use Rattle.gen_show_systems.specs.SystemText.{proposer_word};
 
 use gen_net::Version;
-use gen_system::{Admission, AdmissionFault, Proposer, header_of, run_by};
+use gen_system::{Admission, AdmissionFault, Proposer, System, header_of, run_by};
 use gen_types::{TreeHeight, u32_at};
 use std::alloc::{AllocError, Global};
 
@@ -57,6 +57,13 @@ fn runs_of_set(version: Version) -> u8
         Version::One => 1,
         Version::Two { .. } => 4,
     }
+}
+
+/// Returns the number of a system's runs: 2 to the power of the levels, times 1 in version 1 and 4 in version 2.
+pub fn run_count(system: &System) -> u32
+    ensures { result ≡ run_count_of system.now }
+{
+    set_count(system.levels()) * u32::from(runs_of_set(system.header().version()))
 }
 
 /// Returns the numbers of the runs of an admission's set, ascending.

@@ -5,7 +5,7 @@ ghost use Rattle.gen_json.specs.JsonData.{digits_data};
 ghost use Rattle.gen_system.specs.Systems.{system_id_of};
 ghost use Rattle.gen_show_systems.specs.SystemData.{system_data, system_line};
 
-use crate::parts::proposer_word;
+use crate::parts::{proposer_word, run_count};
 use gen_file::version_number;
 use gen_json::{
     JSON_VERSION, ObjectBuilder, all_digits_value, digits_value, network_value, pairs_value,
@@ -39,7 +39,7 @@ fn system_value(alloc: Global, name: &str, system: &System) -> Result<Value, All
     object.put_made("network", network_value(alloc, header.net()));
     object.put_text("proposer", proposer_word(system.proposer()));
     object.put("run_version", Value::from(version_number(header.version())));
-    object.put("runs", Value::from(system.run_count()));
+    object.put("runs", Value::from(run_count(system)));
     object.put_made("system", id_value(alloc, system));
     object.put("version", Value::from(JSON_VERSION));
     object.finish()

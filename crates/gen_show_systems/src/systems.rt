@@ -2,7 +2,7 @@
 ghost use Rattle.std.specs.Prelude.{◌≡◌, ◌++◌, OnOk, string_bytes};
 ghost use Rattle.gen_show_systems.specs.SystemText.{choice_lines, format_line, id_line, identity_lines, system_lines};
 
-use crate::parts::proposer_word;
+use crate::parts::{proposer_word, run_count};
 use gen_file::version_number;
 use gen_show::{push_edges, push_numbers};
 use gen_system::System;
@@ -34,7 +34,7 @@ fn push_choices(alloc: Global, out: &mut String, system: &System) -> Result<(), 
 {
     let proposer = proposer_word(system.proposer());
     let levels = system.levels();
-    let runs = system.run_count();
+    let runs = run_count(system);
     let context = hex::encode(alloc, *system.context())?;
     write!(
         out,
