@@ -12,6 +12,7 @@ mod naming;
 mod plan_lines;
 mod planning;
 mod showing;
+mod shown_file;
 mod telling;
 
 pub use deciding::{decide, decide_engine};

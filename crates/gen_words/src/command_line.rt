@@ -314,7 +314,7 @@ fn with_showing<'a>(alloc: Global, tool: CommandBuilder<'a>) -> CommandBuilder<'
         .arg(flag_named(alloc, "json", ONE_OBJECT))
         .arg(file_argument(alloc));
     let about =
-        "Reads a bundle, a campaign, evidence or a header, and prints what it says, a line for each fact";
+        "Reads a file of any format but a log, a frame or a text, and prints what it says, a line for each fact";
     let show = with_asked(alloc, CommandBuilder::new(alloc, "show", about)).arg(flag_named(
         alloc,
         "json",

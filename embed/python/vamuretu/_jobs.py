@@ -246,9 +246,10 @@ def run_ids(given: Bytes) -> Tuple[str, ...]:
 
 
 def show(given: Bytes, *, runs: Runs = None, admission: Admission = None, system: System = None) -> Tuple[bool, str]:
-    """Whether a file is a whole bundle, campaign, evidence or header, and what it is, as `sm_tool show` writes it.
+    """Whether a file is a whole one of its kind, and what it is, as `sm_tool show` writes it: a bundle, a campaign, evidence,
+    a header, receipts, a system, an admission or roots.
 
-    What is expected is as of `audit`. With it a file that is not whole is OtherRun too, as nothing says of which run it is.
+    What is expected is as of `audit`. With it a file that is not whole is OtherRun too, and so is one of no run.
     """
     is_no, text = _made("show", given, Expected(runs, admission, system).options())
     return not is_no, text.decode("ascii")

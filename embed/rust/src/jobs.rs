@@ -295,13 +295,13 @@ pub fn run_ids(input: &[u8]) -> Result<Option<Vec<RunId>>, Fault> {
 }
 
 /// What a file is, line by line, as `sm_tool show` writes it. It is a no if and only if the file is no whole bundle,
-/// campaign, evidence or header.
+/// campaign, evidence, header, receipts, system, admission or file of roots.
 pub fn show(input: &[u8]) -> Result<Answer, Fault> {
     show_of(&[], input)
 }
 
 /// What a file of the runs that are expected is, as [`show`]. Faults are those of [`audit_of`], and a file that is not
-/// whole is [`Fault::OtherRun`] too, if anything is expected.
+/// whole, or of no run, is [`Fault::OtherRun`] too, if anything is expected.
 pub fn show_of<'a>(runs: impl Into<Expected<'a>>, input: &[u8]) -> Result<Answer, Fault> {
     asked(raw::sm_show, &options(runs, false, TEXT)?, input).map(in_words)
 }
