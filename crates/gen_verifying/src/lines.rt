@@ -1,5 +1,5 @@
 //! The lines of verdicts, and of the faults of public keys.
-ghost use Rattle.std.specs.Prelude.{◌≡◌, IfOk, codes};
+ghost use Rattle.std.specs.Prelude.{◌≡◌, IfOk, string_bytes};
 ghost use Rattle.gen_verifying.specs.Lines.{key_fault_line, key_fault_name, refusal_name, verdict_text};
 
 use crate::verdicts::Verdict;
@@ -55,10 +55,10 @@ pub fn verdict_text(alloc: Global, verdict: Verdict) -> Result<Vec<u8>, AllocErr
 /// # Errors
 ///
 /// `AllocError` if memory is refused.
-pub fn key_fault_line(alloc: Global, fault: KeyFault) -> Result<Vec<u8>, AllocError>
-    ensures { IfOk result (λ line. line.items ≡ key_fault_line fault) }
+pub fn key_fault_line(alloc: Global, fault: KeyFault) -> Result<String, AllocError>
+    ensures { IfOk result (λ line. string_bytes line ≡ key_fault_line fault) }
 {
     let mut line = String::from_str(alloc, "fault ")?;
     line.push_str(key_fault_name(fault))?;
-    Ok(line.into_bytes())
+    Ok(line)
 }
