@@ -20,7 +20,7 @@ fn refusal_name(refusal: Refusal) -> &'static str
 }
 
 /// Returns the name of the fault of bytes that are no public key.
-fn key_fault_name(fault: KeyFault) -> &'static str
+pub fn key_fault_name(fault: KeyFault) -> &'static str
     ensures { result.now ≡ key_fault_name fault }
 {
     match fault {
