@@ -28,8 +28,8 @@ pub record HoldsKeyFault (key : List ℕ) (held : Option Kept) (status : ℕ) : 
   pub number : status ≡ 3
   pub holds : HoldsText (key_fault_line fault) held
 
--- At 0 and 1 the line of the verdict is held, which says no at 1. At 3 the line of the fault of the key is. At
--- 4 memory was refused, and nothing is held.
+-- At 0 and 1 the line of the verdict is held, which says no at 1. At 3 the line of the fault of the key is.
+-- At 4 memory was refused, and nothing is held.
 abbrev pub MakesVerdict : List ℕ → List ℕ → List ℕ → Option Kept → ℕ → Type 0
 MakesVerdict key text signature held status =
     HoldsVerdict key text signature held status
