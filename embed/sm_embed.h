@@ -265,6 +265,17 @@ uint32_t sm_admission(uint32_t run, const uint8_t *system, size_t system_bytes, 
 uint32_t sm_admit(uint32_t run, const uint8_t *admission, size_t admission_bytes, const uint8_t *system,
                   size_t system_bytes, sm_answer *answer) SM_CALL(2, 4, 6);
 
+/* Whether a signature of a text verifies under a public key of RFC 8554, as sm_tool lms-verify: the line `signature
+   verifies`, or `signature fails` with the name of the reason, W1 to W5, which is a no. The key is the 56 bytes of a
+   tree of LMS_SHA256_M32_H5 to H25 over LMOTS_SHA256_N32_W4, and the text may be any bytes. No secret is taken, and
+   nothing is kept. A leaf of a tree signs one text: the call does not know what the leaf signed before.
+
+     SM_FAULT    the key is no public key. The line `fault D1`, `fault D2` or `fault D3` is held
+
+   Returns SM_OK, SM_NO, SM_MISUSE, SM_FAULT or SM_MEMORY. */
+uint32_t sm_lms_verify(const uint8_t *key, size_t key_bytes, const uint8_t *text, size_t text_bytes,
+                       const uint8_t *signature, size_t signature_bytes, sm_answer *answer) SM_CALL(1, 3, 5, 7);
+
 /* Writes the text, the line or the bytes that an answer holds, with no zero byte behind them. The room behind them
    keeps its old content. If the room has 0 bytes, *count tells the length.
 
@@ -381,6 +392,15 @@ SM_CALL(6) static inline uint32_t sm_checked_admit(uint32_t run, const uint8_t *
     if (sm_is_missing(admission, admission_bytes) || sm_is_missing(system, system_bytes)) return sm_no_answer(answer);
     return sm_admit(run, sm_bytes_at(admission), admission_bytes, sm_bytes_at(system), system_bytes, answer);
 }
+SM_CALL(7)
+static inline uint32_t sm_checked_lms_verify(const uint8_t *key, size_t key_bytes, const uint8_t *text,
+                                             size_t text_bytes, const uint8_t *signature, size_t signature_bytes,
+                                             sm_answer *answer) {
+    if (sm_is_missing(key, key_bytes) || sm_is_missing(text, text_bytes)) return sm_no_answer(answer);
+    if (sm_is_missing(signature, signature_bytes)) return sm_no_answer(answer);
+    return sm_lms_verify(sm_bytes_at(key), key_bytes, sm_bytes_at(text), text_bytes, sm_bytes_at(signature),
+                         signature_bytes, answer);
+}
 SM_CALL(4) static inline uint32_t sm_checked_answer_text(sm_answer *answer, uint8_t *room, size_t room_bytes,
                                                          size_t *count) {
     uint8_t none[1] = {0};
@@ -416,6 +436,7 @@ SM_CALL(4) static inline uint32_t sm_checked_answer_facts(sm_answer *answer, sm_
 #define sm_system sm_checked_system
 #define sm_admission sm_checked_admission
 #define sm_admit sm_checked_admit
+#define sm_lms_verify sm_checked_lms_verify
 #define sm_answer_text sm_checked_answer_text
 #define sm_answer_facts sm_checked_answer_facts
 #endif

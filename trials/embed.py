@@ -403,6 +403,9 @@ def try_refused_calls(program, tally, folder):
     receipts, of_receipts = ("input", read("split.receipts")), ("options", (b"", 0, 0, 1))
     asked |= {"receipt": ("sm_receipt", ("number", 1), ("input", split), nothing), "receipts": ("sm_receipts", receipts, nothing)}
     asked |= {"accuse by receipts": ("sm_accuse", ("number", 0), receipts, of_receipts)}
+    signed_by = [("input", read(os.path.join("lms", name))) for name in ("key", "text", "signature")]
+    asked |= {"lms_verify": ("sm_lms_verify", *signed_by), "lms_verify, no": ("sm_lms_verify", *signed_by[:2], ("input", b""))}
+    asked |= {"lms_verify, no key": ("sm_lms_verify", *signed_by[1:], signed_by[0])}
     asked |= {"decide": ("sm_decide", ("input", signed()["split"]), nothing), "audit": ("sm_audit", ("input", split), nothing)}
     for name, call in asked.items():
         wanted, got, count = native.end(*call, ("answer", 0)), None, -1

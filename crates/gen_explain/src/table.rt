@@ -21,6 +21,16 @@ fails|evidence fails|The claim is not so, or one of its signatures does not veri
 shown|shown S|More generals than the planned number of traitors have receipts that hold for each of the orders S, where a hyphen is none.\n\
 general G fails|general G fails|The signature of this receipt does not verify as that of general G: it shows nothing.\n\
 general G convicted|general G convicted|Two receipts with different heads are signed with keys of general G: accuse --receipts writes the evidence.\n\
+verifies|signature verifies|The signature of the text verifies under the public key: whoever has the secret of the key signed this text.\n\
+signature fails|signature fails NAMES|The signature of the text does not verify under the public key, and the reason follows.\n\
+W1|W1|The signature has not the number of bytes of one by the tree of the public key.\n\
+W2|W2|The type code of the one-time signature is not that of LMOTS_SHA256_N32_W4.\n\
+W3|W3|The type code of the tree in the signature is not that of the public key.\n\
+W4|W4|The tree of the public key has no leaf of the number in the signature.\n\
+W5|W5|The signature leads to another root: the text is another than the one that was signed, or the key is, or a byte of the signature is another.\n\
+D1|D1|The public key has not 56 bytes.\n\
+D2|D2|The type code of the tree in the public key is none of LMS_SHA256_M32_H5 to H25.\n\
+D3|D3|The type code of the one-time keys in the public key is not that of LMOTS_SHA256_N32_W4.\n\
 forged statement|forged statement order V path P|The evidence has the statement of order V with the path P, signed with keys of the accused, and the log of the accused does not have it.\n\
 forged head|forged head entries N link L|The evidence has the head of a log of N entries with the last link L, signed with keys of the accused, and the log of the accused is another.\n\
 collision|collision A B|These are two different strings of bytes with one hash: A and B.\n\

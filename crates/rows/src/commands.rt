@@ -76,6 +76,7 @@ fn command_of(several: &Several<'_>) -> &'static str {
     match several {
         Several::Bundle { .. } => "bundle",
         Several::Answer { .. } => "answer",
+        Several::LmsVerify { .. } => "lms-verify",
     }
 }
 

@@ -8,3 +8,4 @@ pub mod Options
 pub mod Owning
 pub mod RunFacts
 pub mod Systems
+pub mod Verifying

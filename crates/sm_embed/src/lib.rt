@@ -36,6 +36,7 @@ ghost use Rattle.sm_embed.specs.Making.{AreNone, HoldsRuns, IsMade, IsMisuse, Ma
 ghost use Rattle.sm_embed.specs.Options.{job_about, job_of, system_in, wanted_in};
 ghost use Rattle.sm_embed.specs.Systems as made;
 ghost use Rattle.sm_embed.specs.Systems.{MakesAdmission, MakesGiven, MakesHeader, MakesOf};
+ghost use Rattle.sm_embed.specs.Verifying.{MakesVerdict};
 ghost use Rattle.sm_embed.specs.declared.options.GeneralTask.TheVariants as abouts;
 ghost use Rattle.sm_embed.specs.declared.options.Task.TheVariants as tasks;
 
@@ -51,6 +52,7 @@ mod opaque;
 mod options;
 mod run_facts;
 mod systems;
+mod verifying;
 
 use crate::among::make;
 use crate::handing::put;
@@ -64,11 +66,13 @@ use crate::systems::{
     SmRoots, admission_made, are_nodes, file_made, header_made, height_in, identity_made,
     keep_made, proposer_in, system_made,
 };
+use crate::verifying::keep_verdict;
 use gen_asked::{Job, Telling};
 use gen_campaign::file_runs;
 use gen_facts::Fact;
 use gen_jobs::{Answered, answer_evidence};
 use gen_net::Version;
+use gen_verifying::verdict_on;
 use std::alloc::Global;
 
 /// Makes the answer of the verdict on the bundle or the campaign that the input spells, as the command `audit` writes it.
@@ -382,6 +386,24 @@ pub extern "C" fn sm_admit(
         }
         None => MISUSE,
     }
+}
+
+/// Makes the answer of whether a signature of a text verifies under a public key of RFC 8554, as the command `lms-verify`
+/// writes it. It says no if the signature fails, and the text has the reason. It returns 3 with the line of the fault if
+/// the bytes are no public key.
+#[tactic(auto, using(crate::proofs::Verified::is_made))]
+#[unsafe(no_mangle)]
+pub extern "C" fn sm_lms_verify(
+    alloc: Global,
+    key: &[u8],
+    text: &[u8],
+    signature: &[u8],
+    answer: &mut SmAnswer,
+) -> u32
+    ensures { MakesVerdict key.now text.now signature.now answer.new.held result }
+{
+    answer.clear(alloc);
+    keep_verdict(alloc, verdict_on(key, text, signature), answer)
 }
 
 /// Hands over the text that an answer holds, which stays there, and tells how many bytes it has. It returns 0, or 5 if

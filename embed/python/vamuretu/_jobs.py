@@ -285,3 +285,14 @@ def plan(given: Bytes) -> Tuple[bool, str]:
     """
     is_no, text = _made("plan", given)
     return not is_no, text.decode("ascii")
+
+
+def lms_verify(key: Bytes, text: Bytes, signature: Bytes) -> Tuple[bool, str]:
+    """Whether a signature of a text verifies under a public key of RFC 8554, and the line on it, as `sm_tool lms-verify`
+    writes it. InputFault if the key is no public key of a tree of LMS over keys of LM-OTS with w = 4.
+
+    A leaf of a tree signs one text, and the call does not know what the leaf signed before.
+    """
+    parts = [as_bytes(it) for it in (key, text, signature)]
+    is_no, line, _ = answered("lms_verify", *(word for part in parts for word in (part, len(part))))
+    return not is_no, line.decode("ascii")

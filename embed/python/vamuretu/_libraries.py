@@ -113,6 +113,7 @@ _ENDS: Dict[str, Dict[str, List[Any]]] = {
         "sm_system": [c_uint32, c_uint32, c_uint32, c_char_p] + _READ + _ANSWER,
         "sm_admission": [c_uint32] + _READ + [POINTER(Roots), c_size_t] + _ANSWER,
         "sm_admit": [c_uint32] + _READ + _READ + _ANSWER,
+        "sm_lms_verify": _READ + _READ + _READ + _ANSWER,
         "sm_answer_text": _ANSWER + _WRITTEN,
         "sm_answer_facts": _ANSWER + [POINTER(Fact), c_size_t, POINTER(c_size_t)],
         "sm_answer_free": _ANSWER,

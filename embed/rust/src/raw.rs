@@ -146,6 +146,15 @@ extern "C" {
         log_bytes: usize,
         answer: *mut SmAnswer,
     ) -> u32;
+    pub fn sm_lms_verify(
+        key: *const u8,
+        key_bytes: usize,
+        text: *const u8,
+        text_bytes: usize,
+        signature: *const u8,
+        signature_bytes: usize,
+        answer: *mut SmAnswer,
+    ) -> u32;
     pub fn sm_explain(input: *const u8, input_bytes: usize, answer: *mut SmAnswer) -> u32;
     pub fn sm_words(input: *const u8, input_bytes: usize, answer: *mut SmAnswer) -> u32;
     pub fn sm_plan(input: *const u8, input_bytes: usize, answer: *mut SmAnswer) -> u32;
