@@ -14,7 +14,7 @@ mod planning;
 mod showing;
 mod telling;
 
-pub use deciding::{decide, decide_engine};
+pub use deciding::decide;
 pub use fault_json::job_fault_json;
 pub use input_kinds::{InputKind, input_kind};
 pub use naming::name_file;
