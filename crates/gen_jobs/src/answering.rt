@@ -4,7 +4,7 @@ ghost use Rattle.gen_asked.specs.Ranges.{IsInRange};
 ghost use Rattle.gen_jobs.specs.Jobs.{JobAnswers, JobFails};
 
 use crate::in_place::told_of;
-use crate::judges::{Judges, judges_of};
+use crate::judges::judges_of;
 use crate::judging::judge;
 use gen_asked::Job;
 use gen_ends::{JobFault, Output};
@@ -29,13 +29,15 @@ fn answer_by_workers<T: Threads + Wait + Sync>(
     ensures fault { IfErr result (JobFails job input.items) }
 {
     match judges_of(&job) {
-        Some(
-            Judges {
-                workers,
-                asked,
-                told,
-            },
-        ) => tell_by_workers(rt, alloc, workers, &asked, told, name, input),
+        Some(judges) => tell_by_workers(
+            rt,
+            alloc,
+            judges.workers,
+            &judges.asked,
+            judges.told,
+            name,
+            input,
+        ),
         None => {
             let mut facts = Vec::new(alloc);
             told_of(alloc, job, &input, &mut facts)
