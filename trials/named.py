@@ -17,7 +17,7 @@ FOLDERS = ("edits/gen_named", "crates/gen_named/must-fail")
 A, B, C, E = range(4)
 VALUES = 4
 # So many runs are drawn, and each has its logs bent in so many ways.
-RUNS, BENDS = 150, 10
+RUNS, BENDS = 300, 10
 
 
 # ---- how cases are made

@@ -7,18 +7,24 @@ the audit says yes if and only if the logs verify and fit by the definitions as 
 against a follower with the follower's stolen keys, and the follower's log answers it.
 """
 import itertools
+import os
 import random
+import sys
+import types
 from functools import lru_cache
 
 import reference  # noqa: F401
+import named
 import naming
 from model.bundle import Exhibit
-from model.faults import Cursor, Fault
+from model.faults import Cursor
 from model.log import Recv, Send, Sign, Start
 from model.network import make_network
 from model.version_3 import audit, bundle, chain, evidence, header, log, node, receipt
 
-RUNS, BENDS = 40, 6
+RUNS, BENDS = 120, 6
+# So many parcels of the faulty are drawn for a frame, of which few have a path that is possible.
+TRIES = 8
 GENERALS, HEIGHT = 5, 5
 PAYLOADS = [b"", b"set point 42", b"open", bytes(60)]
 MOST = 60
@@ -47,7 +53,8 @@ class Liars:
 
     def frame(self, number, sender, to):
         """A frame of a round, with some parcels that may count and some that do not."""
-        parcels = [it for _ in range(self.drawn.choice((0, 1, 1, 2, 2, 3))) if (it := self.parcel(number, sender, to)) is not None]
+        tried = [self.parcel(number, sender, to) for _ in range(TRIES)]
+        parcels = [it for it in tried if it is not None][:self.drawn.choice((0, 1, 1, 2, 2, 2, 3))]
         return [self.bent(it) if self.drawn.random() < 0.15 else it.spell() for it in parcels]
 
     def parcel(self, number, sender, to):
@@ -80,9 +87,10 @@ class Liars:
 def drawn_system(drawn):
     """A system, the faulty generals of a run, and m and d that suit its network."""
     while True:
-        n = drawn.randint(2, GENERALS)
-        edges = [pair for pair in itertools.combinations(range(n), 2) if drawn.random() < 0.8]
-        faulty = tuple(sorted(drawn.sample(range(n), drawn.randint(0, min(3, n - 1)))))
+        n = drawn.choice((2, 3, 4, 4, GENERALS))
+        edges = [pair for pair in itertools.combinations(range(n), 2) if drawn.random() < 0.85]
+        some = drawn.sample(range(n), drawn.randint(0, min(3, n - 1)))
+        faulty = tuple(sorted({0, *some[1:]} if some and drawn.random() < 0.6 else some))
         m = len(faulty) if faulty or drawn.random() < 0.5 else 1
         for diameter in range(1, n):
             known = naming.Network(n, frozenset(edges), m, diameter, 3, naming.ONLY)
@@ -146,6 +154,131 @@ def supports(shown):
     return naming.has_diameter(case) and naming.Definitions().logs_fit(case)
 
 
+# ---- cases of the definitions as bundles
+
+
+def realised(case):
+    """The bundle of a case of named.py: its logs with signatures. The faulty sign each value under order 1."""
+    net = make_network((case.net.generals, case.net.traitors, case.net.diameter, 3, 0), sorted(case.net.edges), False)
+    run = header.Header(header.System(net, MOST, 0, bytes(32), tuple(ring(it).public() for it in range(net.generals))), 1)
+    signed = {g: [signed_entry(run, case, g, it) for it in entries] for g, entries in case.logs.items()}
+    return made_bundle(run, case.faulty, {g: node.seal(run, ring(g), g, entries) for g, entries in signed.items()})
+
+
+def signed_entry(run, case, g, entry):
+    """An entry of a case with its signatures."""
+    values = {order: header.value_of(PAYLOADS[it]) for order, it in case.names[g].items()}
+    if isinstance(entry, naming.Started):
+        return Start(entry.general, entry.own)
+    if isinstance(entry, naming.Sent):
+        return Send(entry.to, entry.order, entry.path)
+    if isinstance(entry, naming.Decided):
+        return log.DecideValues(entry.orders, entry.order, tuple(values.get(it, header.NO_VALUE) for it in entry.orders))
+    value = values.get(entry.order, header.NO_VALUE)
+    if isinstance(entry, naming.Signed):
+        return Sign(entry.order, entry.path, node.signer_of(run, ring(g), g, entry.order, value, entry.path).signature)
+    made = None
+    for signer in entry.path:
+        own = next((order for order, it in case.names.get(signer, {}).items() if header.value_of(PAYLOADS[it]) == value), 1)
+        made = node.longer(run, ring(signer), signer, own, value, made)
+    return Recv(entry.sender, made.held_as(entry.order))
+
+
+def whole_cases():
+    """The cases of named.py and of this module whose logs are whole, as bundles."""
+    cases = [(make.__name__, make()[1]) for make in named.CASES]
+    cases += [(make.__name__, make()) for make in (another_sent, another_source, by_order_two)]
+    shown = {name: realised(case) for name, case in cases if case.logs and all(is_whole(case, g) for g in case.logs)}
+    return {**shown, "twice": twice(), "another_value": another_value()}
+
+
+def is_whole(case, g):
+    """Whether a log begins with START, and each of its orders has a value."""
+    return isinstance(case.logs[g][0], naming.Started) and naming.Definitions().orders_are_names(case.names[g], case.logs[g])
+
+
+def another_sent():
+    """General 1 sent B, its order 2, and general 2 received C, its order 1, with the same path."""
+    net = named.network(3, 1, 1)
+    sent = named.with_parts(net, (0,), [named.given(1, named.B), named.told(1, 2, named.B)], {1: {2: named.B}})
+    came = named.with_parts(net, (0,), [named.told(1, 2, named.C)], {2: {1: named.C}})
+    return named.with_logs(sent._replace(parts={**sent.parts, **came.parts}))
+
+
+def another_source():
+    """The faulty 3 signed B behind general 1, which sent it A."""
+    relayed = [named.told(1, 2, named.A), named.told(1, 3, named.A), named.told(2, 3, named.A, 1)]
+    run = [named.given(1, named.A), *relayed, named.told(3, 2, named.B, 1)]
+    return named.with_logs(named.with_parts(named.network(4, 2, 1), (0, 3), run, {1: {1: named.A}, 2: {1: named.A, 2: named.B}}))
+
+
+def by_order_two():
+    """Both lieutenants decide A, which is order 2 of the first."""
+    run = [named.given(g, named.A) for g in (1, 2)] + [named.told(g, 3 - g, named.A) for g in (1, 2)]
+    return named.with_logs(named.with_parts(named.network(3, 1, 1), (0,), run, {1: {2: named.A}, 2: {1: named.A}}))
+
+
+def another_value():
+    """The bundle of a commander whose DECIDE has another value than it signed."""
+    case = named.with_parts(named.network(2, 1, 1), (1,), [named.given(1, named.A)], {0: {1: named.A}}, 1)
+    shown = realised(named.with_logs(case))
+    told = audit.judge(shown).told[0]
+    end = log.DecideValues((1,), 1, (header.value_of(b"close"),))
+    return made_bundle(shown.header, shown.faulty, {0: node.seal(shown.header, ring(0), 0, [*told.entries[:-1], end])})
+
+
+# ---- auditors that are changed
+
+LEFT_OUT = "return log.order_of(value) == 0 and _is_full(log, number)"
+ON_EDGE = "sender.order_of(receiver.value_of(it.order)) or it.order + 2"
+SOURCE = "receiver.order_of(log.value_of(entry.order)) == order"
+WRONG = {
+    "a value may have two names": ("log", "if len(set(values)) != len(values):", "if False:"),
+    "chains are not verified": ("audit", "return not isinstance(entry, Recv) or", "return True or"),
+    "statements are taken with any value": ("audit", "value = log.stated(entry.order)", "return True"),
+    "what has no name is left out": ("audit", LEFT_OUT, "return log.order_of(value) == 0"),
+    "nothing is left out": ("audit", LEFT_OUT, "return False"),
+    "what has a name is left out": ("audit", LEFT_OUT, "return _is_full(log, number)"),
+    "full with one order": ("audit", "return set(NAMES) <= came", "return bool(came)"),
+    "full at the end": ("audit", "and len(entry.chain.path) <= number}", "}"),
+    "orders of the receiver on edges": ("audit", ON_EDGE, "it.order"),
+    "1 more in place of 2": ("audit", ON_EDGE, ON_EDGE.replace("+ 2", "+ 1")),
+    "orders of the sender to the faulty": ("audit", SOURCE, "entry.order == order"),
+    "sources of any value": ("audit", SOURCE, "True"),
+    "the value of order 1 is agreed": ("log", "self.stated(self.decided.order)", "self.stated(1)"),
+}
+
+
+@lru_cache(maxsize=None)
+def changed(name, old, new):
+    """`judge` of the reference's version 3, with a text of one of its modules changed."""
+    made = {}
+    for it in ("log", "audit"):
+        with open(f"{os.path.dirname(log.__file__)}/{it}.py", encoding="utf-8") as file:
+            text = file.read()
+        assert it != name or text.count(old) == 1, old
+        module = types.ModuleType(f"model.version_3.{it}")
+        module.__package__ = "model.version_3"
+        sys.modules[module.__name__ + "_changed"] = module
+        module.__name__ += "_changed"
+        exec(compile(text.replace(old, new) if it == name else text, f"{it}, changed", "exec"), vars(module))
+        for earlier in made.values():
+            vars(module).update({key: value for key, value in vars(earlier).items() if key in vars(module) and key[:2] != "__"})
+        made[it] = module
+    return made["audit"].judge
+
+
+def twice():
+    """The bundle of a lieutenant that names one value twice, and decides RETREAT."""
+    net = make_network((3, 1, 1, 3, 0), list(itertools.combinations(range(3), 2)), False)
+    run = header.Header(header.System(net, MOST, 0, bytes(32), tuple(ring(it).public() for it in range(3))), 1)
+    run_nodes = node.play(run, [ring(it) for it in range(3)], b"open")
+    heard = run_nodes[1].heard
+    heard[2, 2, 2] = heard.pop((2, 2, 1)).held_as(2)
+    run_nodes[1].payloads[2] = b"open"
+    return made_bundle(run, (), {it.general: it.log() for it in run_nodes})
+
+
 # ---- what is tried
 
 
@@ -186,7 +319,12 @@ def run_wrong(run, faulty, nodes):
     if wanted and told.verdict() != f"agreed {audit.outcome_words(wanted[0])}":
         return told.verdict()
     framed = [g for g in nodes if evidence.contradiction(told, g) is not None]
-    return f"followers are convicted: {framed}" if framed else receipts_wrong(run, logs, wanted)
+    if framed:
+        return f"followers are convicted: {framed}"
+    claims = [it for f in faulty if (it := evidence.accuse(told, f)) is not None]
+    if any(not it.holds() or evidence.read_evidence(it.spell()) != it for it in claims):
+        return "evidence against a liar does not hold, or is not read as it was written"
+    return receipts_wrong(run, logs, wanted)
 
 
 def receipts_wrong(run, logs, wanted):
@@ -197,36 +335,51 @@ def receipts_wrong(run, logs, wanted):
     return f"shown: {shown}" if (enough and shown != wanted) or not set(shown) <= {it.outcome() for it in logs.values()} else None
 
 
-def bends_wrong(drawn, run, faulty, nodes):
-    """What is wrong with the verdicts on bent logs and other lists, or None."""
+def bent_bundles(drawn, run, faulty, nodes):
+    """Bundles in which a log is bent, or others are listed: each with the general whose log it is."""
     logs = {g: it.log() for g, it in nodes.items()}
     for _ in range(BENDS):
         g = drawn.choice(sorted(logs))
         listed = faulty if drawn.random() < 0.7 else tuple(it for it in range(run.network.generals) if drawn.random() < 0.3)
-        try:
-            bent = {**logs, g: log.read_log(bent_log(drawn, run, g, logs[g]).spell(), run)} if drawn.random() < 0.8 else logs
-        except Fault:
-            continue
-        shown = made_bundle(run, listed, bent)
-        told = audit.judge(shown)
-        if (not told.findings) != supports(shown):
-            return f"{told.verdict()}, and the definitions say otherwise: {[it.spell() for it in told.findings]}"
-        framed = [it for it in nodes if it != g and evidence.contradiction(told, it) is not None]
-        if framed:
-            return f"followers are convicted: {framed}"
-    return None
+        bent = bent_log(drawn, run, g, logs[g]) if drawn.random() < 0.8 else logs[g]
+        yield g, made_bundle(run, listed, {**logs, g: bent})
 
 
-def drawn_wrong(number):
-    """What is wrong with the run of a number, or None."""
+def bent_wrong(nodes, g, shown):
+    """What is wrong with the verdict on a bundle in which the log of g is bent, or None."""
+    told = audit.judge(shown)
+    if (not told.findings) != supports(shown):
+        return f"{told.verdict()}, and the definitions say otherwise: {[it.spell() for it in told.findings]}"
+    framed = [it for it in nodes if it != g and evidence.contradiction(told, it) is not None]
+    return f"followers are convicted: {framed}" if framed else None
+
+
+def drawn_run(number):
+    """The draw of a number, with a run, its faulty generals, and the nodes of the rest."""
     drawn = random.Random(number)
     system, faulty = drawn_system(drawn)
     run = header.Header(system, drawn.randrange(system.runs))
-    if header.read_header(Cursor(run.spell(), "H9")) != run or header.read_system_file(header.MARK + system.spell()) != system:
-        return f"run {number}: a header or a system is not read as it was written"
-    nodes = played(drawn, run, faulty)
-    wrong = run_wrong(run, faulty, nodes) or bends_wrong(drawn, run, faulty, nodes)
-    return wrong and f"run {number}: {wrong}"
+    return drawn, run, faulty, played(drawn, run, faulty)
+
+
+def drawn_wrong(number, judged):
+    """What is wrong with the run of a number, or None. Its bundles are put to those that are judged."""
+    drawn, run, faulty, nodes = drawn_run(number)
+    if header.read_header(Cursor(run.spell(), "H9")) != run:
+        return f"run {number}: a header is not read as it was written"
+    if header.read_system_file(header.MARK + run.system.spell()) != run.system:
+        return f"run {number}: a system is not read as it was written"
+    bent = list(bent_bundles(drawn, run, faulty, nodes))
+    judged += [made_bundle(run, faulty, {g: it.log() for g, it in nodes.items()}), *(it for _, it in bent)]
+    wrong = [run_wrong(run, faulty, nodes), *(bent_wrong(nodes, g, shown) for g, shown in bent)]
+    return next((f"run {number}: {it}" for it in wrong if it), None)
+
+
+def told_apart(change, judged):
+    """What is wrong where no bundle tells a changed auditor apart, or None."""
+    judge = changed(*change)
+    apart = any(judge(shown).verdict() != audit.judge(shown).verdict() for shown in judged)
+    return None if apart else "no bundle tells this auditor apart"
 
 
 # ---- evidence against a follower whose keys are stolen
@@ -274,5 +427,11 @@ def trials(_, tally):
     run, own, claims = stolen()
     for name, told in claims.items():
         tally.hold(f"evidence: {name}", evidence_wrong(run, own, told))
+    judged = []
+    for name, shown in whole_cases().items():
+        judged.append(shown)
+        tally.hold(f"case {name}", bent_wrong({}, None, shown))
     for number in range(RUNS):
-        tally.hold("drawn runs", drawn_wrong(number))
+        tally.hold("drawn runs", drawn_wrong(number, judged))
+    for name, change in WRONG.items():
+        tally.hold(f"auditor: {name}", told_apart(change, judged))
