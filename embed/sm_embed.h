@@ -198,7 +198,8 @@ uint32_t sm_decide(const uint8_t *input, size_t input_bytes, const sm_options *o
 /* What a file is, line by line, as sm_tool show: a bundle, a campaign, evidence, a header alone, receipts, a system,
    an admission or a file of roots. The answer is a no if the file is no whole one of its kind, and the last line of
    the text is then the fault. Of any other file, as a log alone, the text is a fault. If run ids are expected, a file
-   that is not whole is SM_OTHER too, and so is one of no run, as a system. Returns SM_OK, SM_NO, SM_MISUSE, SM_MEMORY or SM_OTHER. */
+   that is not whole is SM_OTHER too, and so is one of no run, as a system. Returns SM_OK, SM_NO, SM_MISUSE, SM_MEMORY
+   or SM_OTHER. */
 uint32_t sm_show(const uint8_t *input, size_t input_bytes, const sm_options *options, sm_answer *answer)
     SM_CALL(1, 3, 4);
 
