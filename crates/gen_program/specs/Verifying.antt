@@ -15,7 +15,8 @@ is_no (Fails refusal) = true
 abbrev pub IsUntold : ℕ → Type 0
 IsUntold status = (status ≡ status_of (Failed faults.Memory)) ⊎ (status ≡ status_of (Failed faults.Write))
 
--- The status is 1 for an output that says no, and 0 for another; or memory was refused, or it was not written.
+-- The status is 1 for an output that says no, and 0 for another; or memory was refused, or the output was not
+-- written.
 abbrev pub IsToldStatus : Bool → ℕ → Type 0
 IsToldStatus negative status =
     (status ≡ if negative then status_of Negative else status_of Done) ⊎ IsUntold status
