@@ -140,9 +140,9 @@ def asked_of(name, lists, strict=STRICT, forms=(*FORMS, NO_FORM), receipts=RECEI
 
 
 def cases_on(given, seconds=(b"",), lists=(b"",), generals=GENERALS, names=CALLS, **asked):
-    """Each call on an input: with options of each list of run ids, of each general, and with each second input if it takes two."""
+    """Each call on an input: with options of each list of run ids, of each general, and with each of these as a second and as a third input."""
     for name in names:
-        inputs, every = [[given], seconds], []
+        inputs, every = [[given], seconds, seconds], []
         for kind in CALLS[name]:
             values = {"options": asked_of(name, lists, **asked), "answer": [0], "number": generals}
             every.append([(kind, it) for it in (inputs.pop(0) if kind == "input" else values[kind])])

@@ -230,6 +230,10 @@ def prepared_cases(program, folder):
     yield "parts", ["bundle", "--faulty", "0", paths["header"], f"1={paths['log']}", "0=-"], first
     yield "evidence and a log", ["answer", paths["evidence"], "-"], first
     yield "evidence and no log", ["answer", paths["evidence"], paths["header"]], b""
+    key, text, signature = (os.path.join(EXAMPLES, "lms", name) for name in ("key", "text", "signature"))
+    yield "a signature", ["lms-verify", key, text, signature], b""
+    yield "a signature that fails", ["lms-verify", key, "-", signature], b"another text"
+    yield "no public key", ["lms-verify", "-", text, signature], b"no key"
 
 
 def file_cases(program, folder):

@@ -1,7 +1,7 @@
 //! The command that verifies a signature of RFC 8554: from its three files to the exit status.
 ghost use Rattle.std.specs.Prelude.{◌≡◌};
 ghost use Rattle.gen_program.specs.Refusal.{IsStatus};
-ghost use Rattle.gen_program.specs.Verifying.{EndsVerdict, IsKeyStatus};
+ghost use Rattle.gen_program.specs.Verifying.{IsKeyStatus, IsToldStatus, is_no};
 
 use crate::ends::{end_written, fail_with};
 use crate::reading::{Failure, detail_within, read_file};
@@ -47,19 +47,37 @@ fn read_signed<'a, R: Files + Terminals + AllocGlobal + Input + Eprint>(
     })
 }
 
-/// Writes the line of a verdict, and returns the exit status.
-fn finish_verdict<R: AllocGlobal + Print + Eprint>(rt: &R, verdict: Verdict) -> u8
-    ensures value { EndsVerdict verdict result }
+/// Returns whether a verdict says no.
+fn is_no(verdict: Verdict) -> bool
+    ensures { result ≡ is_no verdict }
+{
+    matches!(verdict, Verdict::Fails(_))
+}
+
+/// Writes an output, and returns the exit status.
+#[tactic(auto, using(crate::proofs::Verified::status_told))]
+fn finish_output<R: Print + Eprint>(rt: &R, output: Output) -> u8
+    ensures value { IsToldStatus output.negative result }
     ensures status { IsStatus result }
 {
-    let negative = verdict != Verdict::Verifies;
-    let Ok(text) = verdict_text(rt.alloc(), verdict) else {
-        return fail_with(rt, &Failure::of_fault(JobFault::Memory));
-    };
-    let mut output = io::writer(rt);
-    let mut writer = WatchedWriter::new(&mut output);
-    let end = deliver(&mut writer, Ok(Output { text, negative }));
+    let mut standard = io::writer(rt);
+    let mut writer = WatchedWriter::new(&mut standard);
+    let end = deliver(&mut writer, Ok(output));
     end_written(rt, end, writer.failure)
+}
+
+/// Writes the line of a verdict, and returns the exit status: 0 for a signature that verifies, and 1 for one that fails.
+fn finish_verdict<R: AllocGlobal + Print + Eprint>(rt: &R, verdict: Verdict) -> u8
+    ensures value { IsToldStatus (is_no verdict) result }
+    ensures status { IsStatus result }
+{
+    match verdict_text(rt.alloc(), verdict) {
+        Ok(text) => {
+            let negative = is_no(verdict);
+            finish_output(rt, Output { text, negative })
+        }
+        Err(_) => fail_with(rt, &Failure::of_fault(JobFault::Memory)),
+    }
 }
 
 /// Tells on standard error that a file is no public key, and returns the exit status.
@@ -67,13 +85,15 @@ fn fail_key<R: AllocGlobal + Eprint>(rt: &R, file: &str, key: &[u8], fault: KeyF
     ensures value { IsKeyStatus result }
     ensures status { IsStatus result }
 {
-    let Ok(line) = key_fault_line(rt.alloc(), fault) else {
-        return fail_with(rt, &Failure::of_fault(JobFault::Memory));
-    };
-    let detail = detail_within(file, key, None);
-    let _ = eprintln!(rt; "{line}");
-    let _ = eprintln!(rt; "{detail}");
-    FAULT_STATUS
+    match key_fault_line(rt.alloc(), fault) {
+        Ok(line) => {
+            let detail = detail_within(file, key, None);
+            let _ = eprintln!(rt; "{line}");
+            let _ = eprintln!(rt; "{detail}");
+            FAULT_STATUS
+        }
+        Err(_) => fail_with(rt, &Failure::of_fault(JobFault::Memory)),
+    }
 }
 
 /// Says whether a signature verifies, by the files of a public key, a text and the signature, and returns the exit status.

@@ -1,8 +1,10 @@
 //! Calls of the signatures of RFC 8554.
+ghost use Rattle.std.specs.Prelude.{◌≡◌, IfSome};
+
 use crate::names::Refused;
 use crate::rows::Row;
 use crate::texts::Answer;
-use gen_lms::{KeyRing, KeyTree, LmsHeight, PublicKey, SignatureRoom};
+use gen_lms::{KeyRing, KeyTree, LeafKey, LmsHeight, PublicKey, SignatureRoom};
 use gen_verifying::{key_fault_name, verdict_on, verdict_text};
 use std::alloc::{AllocError, Global};
 
@@ -30,6 +32,17 @@ fn tell_verdict(alloc: Global, mut row: Row<'_>, answer: &mut Answer) -> Result<
         Err(fault) => answer.word(key_fault_name(fault)),
     }
     Ok(())
+}
+
+/// Returns the key of the leaf with this number, if it is not taken and there is one.
+fn key_of(ring: &mut KeyRing, leaf: u32) -> Option<LeafKey>
+    ensures { IfSome result (λ key. key.tree ≡ ring.old.tree) }
+{
+    if ring.skip_to(leaf) {
+        ring.take()
+    } else {
+        None
+    }
 }
 
 /// A tree of keys, and the leaf of it that signs.
@@ -68,11 +81,7 @@ impl Signer {
         let tree = KeyTree::from_seed(alloc, &self.identifier, &self.seed, self.height)?;
         let mut ring = KeyRing::open(tree);
         let public = ring.public_key();
-        let key = if ring.skip_to(self.leaf) {
-            ring.take()
-        } else {
-            None
-        };
+        let key = key_of(&mut ring, self.leaf);
         let _next = ring.close();
         match key {
             Some(key) => Ok(Some((public, key.sign(room, randomizer, text)))),
