@@ -14,7 +14,7 @@
 
      SM_OK       the answer is held, and is not a no
      SM_NO       the answer is held, and is a no
-     SM_MISUSE   the number of the general is above 15, the options have more than four run ids or a form that is
+     SM_MISUSE   the number of a general is above 15, the options have more than four run ids or a form that is
                  none or run ids beside an admission or a system that is no id or stands without an admission, or a
                  pointer is null though there are bytes, and nothing is held
      SM_FAULT    the input has a fault. The line that sm_tool prints of it is held, without its line feed and without
@@ -57,8 +57,9 @@ typedef struct {
 
 /* The forms of the text of an answer. */
 enum sm_form {
-    SM_TEXT = 0, /* lines, each ended by a line feed */
-    SM_JSON = 1  /* one line with a JSON object, as by --json; of sm_show a line for each object */
+    SM_TEXT = 0,   /* lines, each ended by a line feed */
+    SM_JSON = 1,   /* one line with a JSON object, as by --json; of sm_show a line for each object */
+    SM_PICTURE = 2 /* of sm_told alone: the picture of a verdict, an SVG text */
 };
 
 /* What is asked besides the input. Null in place of options is as options that are all 0. */
@@ -135,9 +136,26 @@ typedef struct {
 
 /* The verdict on a bundle or a campaign, as sm_tool audit. The answer is a no if and only if the verdict on the bundle,
    or on a run of the campaign, is no. At SM_OK the facts say whether the verdict is `agreed` or `explained`. Returns
-   SM_OK, SM_NO, SM_MISUSE, SM_FAULT, SM_MEMORY or SM_OTHER. */
+   SM_OK, SM_NO, SM_MISUSE, SM_FAULT, SM_MEMORY or SM_OTHER. The answer keeps what was judged, with a copy of the input:
+   sm_told, sm_evidence_in and sm_held ask it for more, and verify no signature again. */
 uint32_t sm_audit(const uint8_t *input, size_t input_bytes, const sm_options *options, sm_answer *answer)
     SM_CALL(1, 3, 4);
+
+/* What `judged`, an answer of sm_audit or sm_held, has judged, in a form: SM_TEXT and SM_JSON as sm_tool audit, SM_PICTURE
+   as sm_tool draw, which is never a no. Runs and `strict` are those of sm_audit. The answer has no facts, and `judged`
+   stays as it is. Returns SM_OK, SM_NO, SM_MEMORY, or SM_MISUSE if nothing was judged. */
+uint32_t sm_told(sm_answer *judged, uint32_t form, sm_answer *answer) SM_CALL(1, 3);
+
+/* The evidence against a general in what `judged` has judged, as sm_tool accuse --general G: bytes, and no text. If there
+   is none, the answer is a no of 0 bytes. `judged` stays as it is. Returns SM_OK, SM_NO, SM_MEMORY, SM_NOBODY, or
+   SM_MISUSE if nothing was judged. */
+uint32_t sm_evidence_in(sm_answer *judged, uint32_t general, sm_answer *answer) SM_CALL(1, 3);
+
+/* The verdict on what `judged` has judged, if these generals are assumed faulty in place of those that the input lists,
+   bit g for general g, as sm_tool audit --faulty: the text and the facts, and an answer that has judged so. `judged`
+   stays as it is. Returns SM_OK, SM_NO, SM_MEMORY, SM_FAULT if a run lacks one of the generals, or SM_MISUSE if nothing
+   was judged or a bit above 15 is set. */
+uint32_t sm_held(sm_answer *judged, uint32_t faulty, sm_answer *answer) SM_CALL(1, 3);
 
 /* The picture of a bundle or a campaign and of the verdict on it, as sm_tool draw: an SVG text, and never a no. Returns
    SM_OK, SM_MISUSE, SM_FAULT, SM_MEMORY or SM_OTHER. */
@@ -177,10 +195,11 @@ uint32_t sm_receipts(const uint8_t *input, size_t input_bytes, const sm_options 
 uint32_t sm_decide(const uint8_t *input, size_t input_bytes, const sm_options *options, sm_answer *answer)
     SM_CALL(1, 3, 4);
 
-/* What a file is, line by line, as sm_tool show: a bundle, a campaign, evidence or a header alone. The answer is a no
-   if the file is no whole one of its kind, and the last line of the text is then the fault. Of any other file, as a
-   log alone, the text is a fault. If run ids are expected, a file that is not whole is SM_OTHER too, as nothing says
-   of which run it is. Returns SM_OK, SM_NO, SM_MISUSE, SM_MEMORY or SM_OTHER. */
+/* What a file is, line by line, as sm_tool show: a bundle, a campaign, evidence, a header alone, receipts, a system,
+   an admission or a file of roots. The answer is a no if the file is no whole one of its kind, and the last line of
+   the text is then the fault. Of any other file, as a log alone, the text is a fault. If run ids are expected, a file
+   that is not whole is SM_OTHER too, and so is one of no run, as a system. Returns SM_OK, SM_NO, SM_MISUSE, SM_MEMORY
+   or SM_OTHER. */
 uint32_t sm_show(const uint8_t *input, size_t input_bytes, const sm_options *options, sm_answer *answer)
     SM_CALL(1, 3, 4);
 
@@ -264,6 +283,17 @@ uint32_t sm_admission(uint32_t run, const uint8_t *system, size_t system_bytes, 
    Returns SM_OK, SM_MISUSE, SM_FAULT, SM_MEMORY or SM_OTHER. */
 uint32_t sm_admit(uint32_t run, const uint8_t *admission, size_t admission_bytes, const uint8_t *system,
                   size_t system_bytes, sm_answer *answer) SM_CALL(2, 4, 6);
+
+/* Whether a signature of a text verifies under a public key of RFC 8554, as sm_tool lms-verify: the line `signature
+   verifies`, or `signature fails` with the name of the reason, W1 to W5, which is a no. The key is the 56 bytes of a
+   tree of LMS_SHA256_M32_H5 to H25 over LMOTS_SHA256_N32_W4, and the text may be any bytes. No secret is taken, and
+   nothing is kept. A leaf of a tree signs one text: the call does not know what the leaf signed before.
+
+     SM_FAULT    the key is no public key. The line `fault D1`, `fault D2` or `fault D3` is held
+
+   Returns SM_OK, SM_NO, SM_MISUSE, SM_FAULT or SM_MEMORY. */
+uint32_t sm_lms_verify(const uint8_t *key, size_t key_bytes, const uint8_t *text, size_t text_bytes,
+                       const uint8_t *signature, size_t signature_bytes, sm_answer *answer) SM_CALL(1, 3, 5, 7);
 
 /* Writes the text, the line or the bytes that an answer holds, with no zero byte behind them. The room behind them
    keeps its old content. If the room has 0 bytes, *count tells the length.
@@ -381,6 +411,15 @@ SM_CALL(6) static inline uint32_t sm_checked_admit(uint32_t run, const uint8_t *
     if (sm_is_missing(admission, admission_bytes) || sm_is_missing(system, system_bytes)) return sm_no_answer(answer);
     return sm_admit(run, sm_bytes_at(admission), admission_bytes, sm_bytes_at(system), system_bytes, answer);
 }
+SM_CALL(7)
+static inline uint32_t sm_checked_lms_verify(const uint8_t *key, size_t key_bytes, const uint8_t *text,
+                                             size_t text_bytes, const uint8_t *signature, size_t signature_bytes,
+                                             sm_answer *answer) {
+    if (sm_is_missing(key, key_bytes) || sm_is_missing(text, text_bytes)) return sm_no_answer(answer);
+    if (sm_is_missing(signature, signature_bytes)) return sm_no_answer(answer);
+    return sm_lms_verify(sm_bytes_at(key), key_bytes, sm_bytes_at(text), text_bytes, sm_bytes_at(signature),
+                         signature_bytes, answer);
+}
 SM_CALL(4) static inline uint32_t sm_checked_answer_text(sm_answer *answer, uint8_t *room, size_t room_bytes,
                                                          size_t *count) {
     uint8_t none[1] = {0};
@@ -416,6 +455,7 @@ SM_CALL(4) static inline uint32_t sm_checked_answer_facts(sm_answer *answer, sm_
 #define sm_system sm_checked_system
 #define sm_admission sm_checked_admission
 #define sm_admit sm_checked_admit
+#define sm_lms_verify sm_checked_lms_verify
 #define sm_answer_text sm_checked_answer_text
 #define sm_answer_facts sm_checked_answer_facts
 #endif

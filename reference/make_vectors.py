@@ -15,7 +15,7 @@ from typing import Callable, Dict, Iterable, List
 HERE = os.path.dirname(os.path.abspath(__file__))
 sys.path.insert(0, HERE)
 
-from vector_cases import handed_in, identities, judged, prepared, receipts, small, standard, texts  # noqa: E402
+from vector_cases import handed_in, identities, judged, prepared, receipts, small, standard, texts, valued  # noqa: E402
 from vector_cases.parts import Vector  # noqa: E402
 
 FOLDER = os.path.join(HERE, "vectors")
@@ -28,6 +28,7 @@ MAKERS: Dict[str, Callable[[], Iterable[Vector]]] = {
     "evidence": handed_in.evidence_vectors, "receipts": receipts.receipt_vectors,
     "prepared": prepared.prepared_vectors, "identities": identities.identity_case_vectors,
     "verdict": judged.verdict_vectors, "picture": judged.picture_vectors, "lms": standard.lms_vectors,
+    "values": valued.value_vectors,
 }
 
 

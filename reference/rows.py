@@ -18,9 +18,9 @@ from typing import Dict, Iterator, List, Tuple
 sys.path.insert(0, os.path.dirname(os.path.abspath(__file__)))
 
 from model.faults import Fault  # noqa: E402
-from row_calls import clock, commands, desks, frames, judging, preparing, reading, signing, values  # noqa: E402
+from row_calls import clock, commands, desks, frames, judging, preparing, reading, signing, standard, values  # noqa: E402
 
-MODULES = (values, signing, judging, preparing, frames, clock, desks, commands)
+MODULES = (values, signing, standard, judging, preparing, frames, clock, desks, commands)
 # The file of rows that are wrong.
 WRONG = "wrong.rows"
 

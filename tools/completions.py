@@ -21,7 +21,7 @@ SOURCE = os.path.join(TOP, "crates", "gen_words", "src", "command_line.rt")
 # What stands beside the commands that have a section.
 OTHERS = {"help": "Says what the program or a command takes"}
 # The commands that take several files.
-SEVERAL = ("bundle", "answer", "admission", "audit", "evidence", "show")
+SEVERAL = ("bundle", "answer", "admission", "lms-verify", "audit", "evidence", "show")
 GLOBAL = {"--help": "Says what is taken", "--version": "Says the version"}
 HELP, FILE, FILES = "'--help[Says what is taken]'", "'::file:_files'", "'*:file:_files'"
 

@@ -42,7 +42,7 @@ def by_toolchain(words_of):
                     file.write(text)
         command = ["rt", "try", "--cases", cases]
         ran = subprocess.run(command, cwd=os.path.join(TOP, "crates", "sm_tool"), stdout=subprocess.PIPE, check=True)
-    _, *pairs = re.split(r"^== (\w+)\n", ran.stdout.decode(), flags=re.MULTILINE)
+    _, *pairs = re.split(r"^== ([\w-]+)\n", ran.stdout.decode(), flags=re.MULTILINE)
     told = dict(zip(pairs[::2], pairs[1::2]))
     return {name: told[name or "all"].splitlines() for name in words_of}
 

@@ -46,6 +46,7 @@ KEPT = [
     "docs/RECORDS.md",
     "docs/REFERENCE.md",
     "crates/docs/ROWS.md",
+    "crates/docs/VERSION-3.md",
     "docs/SYSTEM.md",
     "docs/WALK.md",
     "docs/WORDS.md",

@@ -24,7 +24,7 @@ READERS = {
                  ["accuse", "--general", "0"]],
     "evidence": [["evidence"], ["evidence", "--json"], ["show"], ["show", "--json"]],
     "receipts": [["receipts"], ["receipts", "--json"], ["accuse", "--receipts", "--general", "0"],
-                 ["accuse", "--general", "1", "--receipts"]],
+                 ["accuse", "--general", "1", "--receipts"], ["show"], ["show", "--json"]],
 }
 # So many right calls of each kind, and so many of each other way.
 RIGHT, WRONG = 3, 2

@@ -46,8 +46,9 @@ from model import words as named
 from model.bundle import CAMPAIGN_MARK, read_campaign
 from model.command import OF_EACH
 from model.faults import Fault
-from model.receipt import MARKS, read_receipts
-from model.show import shown_runs
+from model.receipt import MARKS
+from model.show_systems import runs_of_any
+from vector_cases.identities import admission_of, line_system, roots_of
 import several
 
 SECONDS = 120
@@ -270,11 +271,21 @@ def accuse_input(draws, block):
 
 
 def shown_input(draws, block):
-    """A bundle, a campaign, evidence, or a header alone, whole or bent."""
-    way = draws.below(8)
+    """A bundle, a campaign, evidence, a header alone, receipts, or a file of a system, whole or bent."""
+    way = draws.below(12)
     if way < 3:
         return evidence_input(draws, block)
-    return bundle_input(draws, block) if way > 3 else header_alone(draws, block)
+    if way < 6:
+        return (header_alone, receipts_input, of_system)[way - 3](draws, block)
+    return of_system(draws, block) if way < 8 else bundle_input(draws, block)
+
+
+def of_system(draws, _block):
+    """A system, an admission of it or a file of roots, whole or bent."""
+    system = line_system(draws.one_of([1, 2]), draws.below(2))
+    made = draws.one_of([system, admission_of(system, draws.below(2)), roots_of(draws.below(3), draws.below(3), draws.one_of([1, 2]))])
+    data = made.spell()
+    return data if draws.below(3) else draws.one_of([bend_bytes(draws, data), data[: draws.below(len(data))], data + b"\0"])
 
 
 def header_alone(draws, block):
@@ -354,8 +365,7 @@ INPUTS = {
 def runs_of(given):
     """The ids of the runs that an input is of, as words have them."""
     try:
-        runs = [read_receipts(given).header.run_id] if is_receipts(given) else shown_runs(given)
-        return [run.hex() for run in runs]
+        return [run.hex() for run in runs_of_any(given)]
     except Fault:
         return []
 

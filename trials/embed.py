@@ -32,6 +32,7 @@ from pinned import FILES, answer_of, lists_of, nearly, pinned_cases, read, runs_
 from programs import End, by_library, differs, run, side_by_side, spell
 from refusals import EXAMPLES, OF_MEMORY, build as build_refusing, count_up, refused
 from scenarios import chain, everybody, header_text, ring, scenario, signed, sixteen
+from told import try_nothing_judged, try_refused, try_told
 
 TOP = os.path.dirname(os.path.dirname(os.path.abspath(__file__)))
 EMBED = os.path.join(TOP, "embed")
@@ -395,6 +396,7 @@ def try_refused_calls(program, tally, folder):
     made, heap = os.path.join(folder, "refusing.so"), os.path.join(TOP, "trials", "refusing_heap.c")
     do(["cc", "-std=c11", *WARNINGS, "-fPIC", "-shared", heap, "-Wl,--whole-archive", ARCHIVE, "-Wl,--no-whole-archive", "-o", made])
     native, nothing = Native(made), ("options", NOTHING)
+    try_refused(tally, native)
     left, blocks = (ctypes.c_long.in_dll(native.calls, name) for name in ("left", "blocks"))
     split = run(program, ["run"], signed()["split"]).wrote
     evidence = run(program, ["accuse", "--general", "0"], split).wrote
@@ -403,6 +405,9 @@ def try_refused_calls(program, tally, folder):
     receipts, of_receipts = ("input", read("split.receipts")), ("options", (b"", 0, 0, 1))
     asked |= {"receipt": ("sm_receipt", ("number", 1), ("input", split), nothing), "receipts": ("sm_receipts", receipts, nothing)}
     asked |= {"accuse by receipts": ("sm_accuse", ("number", 0), receipts, of_receipts)}
+    signed_by = [("input", read(os.path.join("lms", name))) for name in ("key", "text", "signature")]
+    asked |= {"lms_verify": ("sm_lms_verify", *signed_by), "lms_verify, no": ("sm_lms_verify", *signed_by[:2], ("input", b""))}
+    asked |= {"lms_verify, no key": ("sm_lms_verify", *signed_by[1:], signed_by[0])}
     asked |= {"decide": ("sm_decide", ("input", signed()["split"]), nothing), "audit": ("sm_audit", ("input", split), nothing)}
     for name, call in asked.items():
         wanted, got, count = native.end(*call, ("answer", 0)), None, -1
@@ -585,6 +590,8 @@ def try_built(program, tally, folder):
     try_facts(program, tally, native, judged)
     try_general(tally, program, native)
     try_reply(tally, program, native)
+    try_told(program, tally, native)
+    try_nothing_judged(tally, native)
     try_near(tally, program, native)
     try_options(tally, native)
     try_document(tally, folder)

@@ -51,11 +51,12 @@ def kind_of(name, said):
 
 def declared():
     """What each call takes that makes an answer of an input, in its order. Those that take a part of a fixed length, or files, are
-    in system_calls.py alone, and so is sm_enroll, which makes keys.
+    in system_calls.py alone, and so is sm_enroll, which makes keys. Those that take an answer are in told.py.
     """
     functions = functions_of_header("sm_embed")
     kinds = {name: list(filter(None, (kind_of(*it) for it in parameters))) for name, (parameters, _) in functions.items()}
     others = ("sm_answer_text", "sm_answer_facts", "sm_answer_free", "sm_enroll", "sm_system", "sm_admission")
+    others += ("sm_told", "sm_evidence_in", "sm_held")
     return {name: takes for name, takes in kinds.items() if "answer" in takes and name not in others}
 
 
@@ -139,9 +140,9 @@ def asked_of(name, lists, strict=STRICT, forms=(*FORMS, NO_FORM), receipts=RECEI
 
 
 def cases_on(given, seconds=(b"",), lists=(b"",), generals=GENERALS, names=CALLS, **asked):
-    """Each call on an input: with options of each list of run ids, of each general, and with each second input if it takes two."""
+    """Each call on an input: with options of each list of run ids, of each general, and with each of these as a second and as a third input."""
     for name in names:
-        inputs, every = [[given], seconds], []
+        inputs, every = [[given], seconds, seconds], []
         for kind in CALLS[name]:
             values = {"options": asked_of(name, lists, **asked), "answer": [0], "number": generals}
             every.append([(kind, it) for it in (inputs.pop(0) if kind == "input" else values[kind])])

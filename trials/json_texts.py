@@ -13,12 +13,12 @@ import sys
 from programs import End, differs, run, side_by_side, spell
 from vectors import stored
 import reference
-from model import json_text, show_json
+from model import json_text, show_systems
 from model.faults import Fault
 from vector_cases.parts import TOP, bytes_of
 
 SCHEMA = os.path.join(TOP, "docs", "verdict.schema.json")
-COMMANDS = {**json_text.COMMANDS, "show": show_json.show}
+COMMANDS = {**json_text.COMMANDS, "show": show_systems.show}
 WORDS = {
     "object": lambda value: isinstance(value, dict),
     "array": lambda value: isinstance(value, list),
@@ -114,13 +114,14 @@ def wrong_line(schema, line):
 
 
 def cases():
-    """The vectors of the commands that have --json, and each file and each header of a vector as one to show.
+    """The vectors of the commands that have --json, and each file, header and input of systems of a vector as one to show.
 
     Those of several files are left out.
     """
     vectors = stored()
     named = [(vector.get("words", [""])[0], vector) for some in vectors.values() for vector in some if "files" not in vector]
-    files = [vector for command, vector in named if command in ("audit", "evidence")] + vectors["header"]
+    files = [vector for command, vector in named if command in ("audit", "evidence", "receipts")] + vectors["header"]
+    files += [vector for vector in vectors["identities"] if "input" in vector and "files" not in vector]
     return [vector for command, vector in named if command in COMMANDS] + [{**vector, "words": ["show"]} for vector in files]
 
 

@@ -54,6 +54,10 @@ static int jobs(void) {
     WANT(sm_refute(NULL, 0, NULL, 0, &answer) == SM_FAULT && is_line(&answer, "fault V1"));
     WANT(sm_refute(NULL, 1, NULL, 0, &answer) == SM_MISUSE && answer.at == NULL);
     WANT(sm_refute(NULL, 0, NULL, 1, &answer) == SM_MISUSE && answer.at == NULL);
+    WANT(sm_lms_verify(NULL, 0, NULL, 0, NULL, 0, &answer) == SM_FAULT && is_line(&answer, "fault D1"));
+    WANT(sm_lms_verify(NULL, 1, NULL, 0, NULL, 0, &answer) == SM_MISUSE && answer.at == NULL);
+    WANT(sm_lms_verify(NULL, 0, NULL, 1, NULL, 0, &answer) == SM_MISUSE && answer.at == NULL);
+    WANT(sm_lms_verify(NULL, 0, NULL, 0, NULL, 1, &answer) == SM_MISUSE && answer.at == NULL);
     WANT(sm_words(NULL, 0, &answer) == SM_OK && is_line(&answer, ""));
     WANT(sm_words(NULL, 1, &answer) == SM_MISUSE && answer.at == NULL);
     WANT(sm_plan(NULL, 0, &answer) == SM_FAULT && answer.at != NULL);

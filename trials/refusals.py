@@ -16,6 +16,8 @@ from typing import NamedTuple
 from layout import MARK, Bundle, with_shared_root
 from programs import End, count_cores, run, shown, side_by_side, spell
 from scenarios import ZEROS, header_text, signed, sixteen
+from model.system import TURNS
+from vector_cases.identities import admission_of, line_system, roots_of
 
 HERE = os.path.dirname(os.path.abspath(__file__))
 EXAMPLES = os.path.join(os.path.dirname(HERE), "examples")
@@ -109,6 +111,7 @@ def small_cases(program, folder):
     yield from prepared_cases(program, folder)
     yield from asked_cases(program)
     yield from receipt_cases(program)
+    yield from system_cases()
     yield from file_cases(program, folder)
     yield "faulty text", ["decide"], b"generals 2\nedge 0\n"
     yield "no bundle", ["audit"], b"SMB1\x01"
@@ -184,9 +187,18 @@ def receipt_cases(program):
     both.exhibits[1:3] = both.exhibits[2:0:-1]
     receipts = first + run(program, words, both.spell()).wrote + run(program, ["receipt", "--general", "2"], given).wrote
     yield "two heads", words, given
-    yield from (("two heads", words, receipts) for words in (["receipts"], ["receipts", "--json"]))
+    yield from (("two heads", words, receipts) for words in (["receipts"], ["receipts", "--json"], ["show"], ["show", "--json"]))
     yield "two heads", ["accuse", "--receipts", "--general", "1"], receipts
     yield "no receipts", ["receipts"], receipts[:-1]
+
+
+def system_cases():
+    """A system, an admission, roots, and an admission and roots that were cut, as files that are shown."""
+    admission, roots = admission_of(line_system(2, TURNS), 1), roots_of(0)
+    files = {"a system": admission.system, "an admission": admission, "roots": roots}
+    for name, data in [(name, file.spell()) for name, file in files.items()]:
+        for given in (data, data[:-1]):
+            yield from ((name, words, given) for words in (["show"], ["show", "--json"]))
 
 
 def written_in(folder, files):
@@ -218,6 +230,10 @@ def prepared_cases(program, folder):
     yield "parts", ["bundle", "--faulty", "0", paths["header"], f"1={paths['log']}", "0=-"], first
     yield "evidence and a log", ["answer", paths["evidence"], "-"], first
     yield "evidence and no log", ["answer", paths["evidence"], paths["header"]], b""
+    key, text, signature = (os.path.join(EXAMPLES, "lms", name) for name in ("key", "text", "signature"))
+    yield "a signature", ["lms-verify", key, text, signature], b""
+    yield "a signature that fails", ["lms-verify", key, "-", signature], b"another text"
+    yield "no public key", ["lms-verify", "-", text, signature], b"no key"
 
 
 def file_cases(program, folder):

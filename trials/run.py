@@ -26,7 +26,7 @@ from programs import Hangs, commands_of, count_cores
 from tally import NoCase, Tally
 
 SUBJECTS = ["scripts", "worked", "walk", "campaigns", "pictures", "prefixes", "vectors", "second_answers", "identities", "signatures", "differs"]
-SUBJECTS += ["json_texts", "costs", "refusals", "slips", "calls", "devices", "many_files", "load", "engines", "worlds", "embed"]
+SUBJECTS += ["json_texts", "costs", "refusals", "slips", "calls", "devices", "many_files", "load", "engines", "worlds", "named", "valued", "embed"]
 SUBJECTS += ["nodes", "node_calls", "system_calls", "receipts", "obeying", "datagrams", "shown", "power", "system", "complete"]
 SUBJECTS += ["bindings", "watching", "archives", "fuzzing", "controllers", "handed_out", "soaking", "attacks", "units", "page", "arm", "release"]
 LIBRARIES = ["worlds", "embed", "nodes", "node_calls", "system_calls", "receipts", "obeying", "datagrams", "shown", "power", "system", "complete"]

@@ -84,6 +84,10 @@ def cases(program, folder):
     prepared += [(["bundle", "--faulty", "1", "-", "1=" + paths["log"]], header)]
     prepared += [(["bundle", "--faulty", "1", paths["header"], "1=-"], log), (["answer", paths["evidence"], "-"], log)]
     prepared += [(["answer", "-", paths["log"]], evidence), (["words"], run(program, ["audit"], bundle).wrote)]
+    signed = [os.path.join(os.path.dirname(HERE), "examples", "lms", name) for name in ("key", "text", "signature")]
+    for path in signed:
+        with open(path, "rb") as kept:
+            prepared.append((["lms-verify", *("-" if it == path else it for it in signed)], kept.read()))
     lists = {"audit": ("bundle", "bundle"), "evidence": ("evidence", "evidence"), "show": ("header", "evidence", "bundle")}
     for command, names in lists.items():
         prepared += [([command, "--files-from", "-"], b"".join(paths[name].encode() + b"\0" for name in names))]

@@ -110,7 +110,7 @@ WRONG = [
     ("N8 from the lesser general alone", "three", ANY, ENDS,
      "audit", "for receiver in told:", "for receiver in (other for other in told if other >= sender):"),
     ("N9 not found", "three", ANY, LIES,
-     "audit", "| _unjoined(bundle)", "if False else set()"),
+     "audit", "| unjoined(bundle)", "if False else set()"),
     ("N9 asked of messages of the rest", "three", ANY, RUNS,
      "audit", "if sender in bundle.faulty and not", "if not"),
     ("N9 a path of the listed alone does not derive", "three", (0,), LIES,

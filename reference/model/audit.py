@@ -139,7 +139,7 @@ def told_logs(bundle: Bundle, reports: Tuple[Report, ...]) -> Dict[int, Log]:
     return told
 
 
-def _exhibit_findings(bundle: Bundle, reports: Tuple[Report, ...]) -> Set[Finding]:
+def exhibit_findings(bundle: Bundle, reports: Tuple[Report, ...]) -> Set[Finding]:
     """N1 to N7 (FORMATS.md#findings)."""
     found: Set[Finding] = set()
     for general in bundle.rest:
@@ -225,7 +225,7 @@ def _joins(bundle: Bundle, walk: Path) -> bool:
     return all(network.joined(a, b) for a, b in zip(walk, walk[1:]))
 
 
-def _unjoined(bundle: Bundle) -> Set[Finding]:
+def unjoined(bundle: Bundle) -> Set[Finding]:
     """N10 (FORMATS.md#findings)."""
     joined = {(walk[0], walk[-1]) for walk in bundle.walks if _joins(bundle, walk)}
     pairs = [(a, b) for a in bundle.rest for b in bundle.rest if a < b and (a, b) not in joined]
@@ -238,6 +238,6 @@ def judge(bundle: Bundle) -> Judgement:
     if not bundle.rest:
         return Judgement(bundle, reports, (Finding(11),))
     told = told_logs(bundle, reports)
-    found = _exhibit_findings(bundle, reports) | _unmatched(told)
-    found |= _underived(bundle, told) | _unjoined(bundle)
+    found = exhibit_findings(bundle, reports) | _unmatched(told)
+    found |= _underived(bundle, told) | unjoined(bundle)
     return Judgement(bundle, reports, tuple(sorted(found)))

@@ -116,7 +116,7 @@ def run_bundle(scenario: Scenario) -> Bundle:
     return Bundle(header, faulty, make_walks(scenario.network, rest), tuple(exhibits))
 
 
-def _read_walks(cursor: Cursor, network: Network) -> Tuple[Path, ...]:
+def read_walks(cursor: Cursor, network: Network) -> Tuple[Path, ...]:
     """The walks of a bundle, or B5 or B6 (FORMATS.md#bundle)."""
     count = cursor.number(1)
     if count > 120:
@@ -137,7 +137,7 @@ def _read_walks(cursor: Cursor, network: Network) -> Tuple[Path, ...]:
     return tuple(walks)
 
 
-def _read_exhibits(cursor: Cursor, network: Network) -> Tuple[Exhibit, ...]:
+def read_exhibits(cursor: Cursor, network: Network) -> Tuple[Exhibit, ...]:
     """The exhibits of a bundle, or B7 or B9 (FORMATS.md#bundle)."""
     count = cursor.number(1)
     if count > 64:
@@ -166,8 +166,8 @@ def _front_bundle(cursor: Cursor, versions: Sequence[int]) -> Bundle:
     faulty = read_set(cursor.number(2))
     if faulty and faulty[-1] >= header.network.generals:
         raise Fault("B4")
-    walks = _read_walks(cursor, header.network)
-    return Bundle(header, faulty, walks, _read_exhibits(cursor, header.network))
+    walks = read_walks(cursor, header.network)
+    return Bundle(header, faulty, walks, read_exhibits(cursor, header.network))
 
 
 def read_bundle(data: bytes) -> Bundle:

@@ -7,7 +7,7 @@ import re
 from dataclasses import dataclass, field, replace
 from typing import Callable, Dict, List, Optional, Sequence, Tuple
 
-from . import json_text, show_json
+from . import json_text, show_systems
 from .answering import answer_line
 from .audit import Judgement, judge
 from .bundle import (CAMPAIGN_MARK, Bundle, Exhibit, hold_all, read_bundle, read_campaign, run_bundle,
@@ -25,9 +25,10 @@ from .prepare import bundle_of_parts, header_of_text, root_text
 from .receipt import RunReceipts, read_receipts, receipt_in, receipts_text
 from .run import play
 from .scenario import read_campaign_text, read_scenario
-from .show import decision_line, equal_root_lines, shown_lines, shown_runs
+from .show import decision_line, equal_root_lines
 from .system import (Admission, admission_of_files, admitted_header, admitted_text, admitted_value, held_admission,
                      read_admission, read_system, system_of_text)
+from .verifying import verdict_line
 from .words import explain, with_words
 
 LONGEST_INPUT = 1_073_741_824
@@ -37,7 +38,7 @@ OPTIONS = {
     "audit": ("workers",), "draw": ("workers",), "accuse": ("general",), "evidence": (), "receipt": ("general",),
     "receipts": (), "show": (), "explain": (), "words": (), "root": (), "header": ("slot",), "plan": ("slot",), "bundle": (),
     "answer": (), "enroll": ("levels", "workers"), "identity": (), "system": ("levels",), "admission": ("number",),
-    "admit": ("number",),
+    "admit": ("number",), "lms-verify": (),
 }
 RANGES = {"capacity": (1, 16), "workers": (1, 16), "general": (0, 15), "slot": (0, 3), "levels": (0, 20),
           "number": (0, 4_294_967_295)}
@@ -56,7 +57,7 @@ TAKES = {
 }
 FLAGS = ("strict", "print-run", "json", "tall", "receipts", "turns", "print-id")
 # The commands of several files: how many words for files they take, at least and at most.
-FILES = {"bundle": (1, None), "answer": (2, 2), "admission": (1, None)}
+FILES = {"bundle": (1, None), "answer": (2, 2), "admission": (1, None), "lms-verify": (3, 3)}
 # The commands that answer each of many files alone.
 OF_EACH = ("audit", "show", "evidence")
 # Of the commands that take words with the number of a general: the form of these, and what the first word is.
@@ -460,12 +461,10 @@ def tell_receipts(given: bytes, job: Job) -> Tuple[int, bytes]:
 
 def show(given: bytes, job: Job) -> Tuple[int, bytes]:
     """The command show (FORMATS.md#shown-text, FORMATS.md#the-shown-file). What is not whole is of no run that is asked for."""
-    lines, is_whole = shown_lines(given)
+    status, text = (show_systems.show if "json" in job.flags else show_systems.show_text)(given)
     if job.runs is not None:
-        _check_runs(job.runs, shown_runs(given) if is_whole else [])
-    if "json" in job.flags:
-        return show_json.show(given)
-    return 0 if is_whole else 1, "".join(f"{line}\n" for line in lines).encode("ascii")
+        _check_runs(job.runs, [] if status else show_systems.runs_of_any(given))
+    return status, text
 
 
 def explain_name(job: Job) -> Tuple[int, bytes]:
@@ -537,6 +536,12 @@ def answer_evidence(evidence: bytes, log: bytes, job: Job) -> Tuple[int, bytes]:
     return (1, b"no answer\n") if line is None else (0, line)
 
 
+def verify_signature(key: bytes, text: bytes, signature: bytes, job: Job) -> Tuple[int, bytes]:
+    """The command lms-verify (FORMATS.md#signatures-of-rfc-8554)."""
+    line = verdict_line(key, text, signature)
+    return 0 if line == "signature verifies\n" else 1, line.encode("ascii")
+
+
 def plan_line(header: bytes) -> bytes:
     """The line that says why the plan of a header fails; none if it holds (COMMANDS.md#exit-status)."""
     holds, text = plan_text(planned_header(header, None))
@@ -577,7 +582,7 @@ COMMANDS: Dict[str, Callable[..., Tuple[int, bytes]]] = {
     "explain": explain_name, "words": word_text,
     "root": tell_root, "header": make_header, "plan": tell_plan, "bundle": make_bundle, "answer": answer_evidence,
     "enroll": enroll_secret, "identity": tell_identity, "system": make_system, "admission": make_admission,
-    "admit": admit_run,
+    "admit": admit_run, "lms-verify": verify_signature,
 }
 
 
@@ -587,15 +592,18 @@ READS: Dict[str, Sequence[str]] = {
     "decide": SCENARIOS, "run": SCENARIOS, "judge": SCENARIOS, "header": SCENARIOS, "campaign": ("campaign text",),
     "audit": JUDGED, "draw": JUDGED, "accuse": JUDGED, "evidence": ("evidence",), "receipt": ("bundle",),
     "receipts": ("receipts",), "root": (),
-    "show": ("bundle", "campaign", "evidence", "header"), "plan": ("bundle", "campaign", "header", "scenario text"),
+    "show": ("bundle", "campaign", "evidence", "header", "receipts", "system", "admission", "roots"),
+    "plan": ("bundle", "campaign", "header", "scenario text"),
 }
 READERS = {"bundle": "audit", "campaign": "audit", "evidence": "evidence", "header": "show", "receipts": "receipts",
+           "system": "show", "admission": "show", "roots": "show",
            "scenario text": "decide", "campaign text": "campaign"}
 # How a kind that is not one thing begins.
-BEGINS = {"evidence": "evidence does", "receipts": "receipts do"}
+BEGINS = {"evidence": "evidence does", "receipts": "receipts do", "admission": "an admission does", "roots": "roots do"}
 # Of the commands of several files: which of these the faults that begin so are of, and of which kind it is. A log is of no kind,
-# and may begin as a header does.
-WITHIN = {"bundle": {"B3": (0, "header"), "B8": (0, "header")}, "answer": {"V": (0, "evidence"), "L": (1, "header")}}
+# and may begin as a header does. A public key is of no kind either.
+WITHIN = {"bundle": {"B3": (0, "header"), "B8": (0, "header")}, "answer": {"V": (0, "evidence"), "L": (1, "header")},
+          "lms-verify": {"D": (0, None)}}
 ESCAPES = {"\t": "\\t", "\r": "\\r", "\n": "\\n", "'": "\\'", '"': '\\"', "\\": "\\\\"}
 
 
@@ -660,7 +668,7 @@ def answer_job(job: Job, inputs: Sequence[bytes]) -> Answer:
 def _read_runs(given: bytes, job: Job) -> List[bytes]:
     """The ids of the runs that an input is of; none if it does not read (COMMANDS.md#exit-status)."""
     try:
-        return [read_receipts(given).header.run_id] if job.reads() == "receipts" else shown_runs(given)
+        return show_systems.runs_of_any(given)
     except Fault:
         return []
 

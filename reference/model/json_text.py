@@ -54,7 +54,7 @@ def failure_value(line: str, name: Optional[str], kind: Optional[str], status: i
 
 
 MARKS = {b"SMB1": "bundle", b"SMB2": "bundle", b"SMC2": "campaign", b"SME1": "evidence", b"SME2": "evidence", b"SMF1": "frame",
-         b"SMR1": "receipts", b"SMR2": "receipts"}
+         b"SMR1": "receipts", b"SMR2": "receipts", b"SMS1": "system", b"SMA1": "admission", b"SMI1": "roots", b"SMI2": "roots"}
 OPENINGS = {b"generals ": "scenario text", b"campaign ": "campaign text"}
 
 

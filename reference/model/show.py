@@ -1,4 +1,4 @@
-"""What a file is, line by line."""
+"""What a file of runs is, line by line."""
 
 from __future__ import annotations
 
@@ -11,7 +11,7 @@ from .evidence import MARKS as EVIDENCE_MARKS
 from .evidence import Across, Claim, Departing, Evidence, Missing, Statement, Text, read_evidence
 from .faults import Cursor, Fault
 from .log import Decide, Entry, Log, Recv, Send, Sign, Start, read_log
-from .network import Header, Path, read_header
+from .network import Header, Network, Path, read_header
 
 KINDS = {
     1: "two texts under one leaf",
@@ -38,7 +38,7 @@ class Form(Generic[Line]):
     bundle: Callable[[int, Bundle], List[Line]]
 
 
-def _front(data: bytes, marks: Dict[int, bytes]) -> Optional[Tuple[Header, int]]:
+def front_of(data: bytes, marks: Dict[int, bytes]) -> Optional[Tuple[Header, int]]:
     """The header behind a mark, and the byte behind it; none where it doesn't read."""
     version = next((number for number in marks if marks[number] == data[:4]), None)
     cursor = Cursor(data, "H9")
@@ -69,7 +69,7 @@ def told(data: bytes, form: Form[Line]) -> Tuple[List[Line], bool]:
             return form.campaign(read_campaign(data)), True
         return form.bundle(0, read_bundle(data)), True
     except Fault as fault:
-        front = _front(data, EVIDENCE_MARKS if evidence else BUNDLE_MARKS)
+        front = front_of(data, EVIDENCE_MARKS if evidence else BUNDLE_MARKS)
         if front is None:
             return [form.fault(fault.words, 0)], False
         return form.header("evidence" if evidence else "bundle", front[0]) + [form.fault(fault.words, front[1])], False
@@ -117,13 +117,17 @@ def equal_root_lines(header: Header) -> List[str]:
     return [f"equal roots {first} {second}" for first, second in header.equal_roots()]
 
 
+def network_lines(net: Network) -> List[str]:
+    """The lines of the numbers and the edges of a network (FORMATS.md#shown-text)."""
+    lines = [f"generals {net.generals}", f"traitors {net.traitors}", f"diameter {net.diameter}"]
+    lines += [f"orders {net.orders}", f"choice {net.choice}"]
+    return lines + [f"edge {a} {b}" for a, b in net.edges]
+
+
 def header_lines(name: str, header: Header) -> List[str]:
     """The lines of a header behind the name of a format (FORMATS.md#shown-text)."""
-    net = header.network
     lines = [f"format {name} version {header.version} slot {header.slot}", f"run {header.run_id.hex()}"]
-    lines += [f"generals {net.generals}", f"traitors {net.traitors}", f"diameter {net.diameter}"]
-    lines += [f"orders {net.orders}", f"choice {net.choice}"]
-    lines += [f"edge {a} {b}" for a, b in net.edges]
+    lines += network_lines(header.network)
     lines += [f"root {general} {root.hex()}" for general, root in enumerate(header.roots)]
     return lines + equal_root_lines(header)
 
@@ -208,13 +212,8 @@ AS_TEXT: Form[str] = Form(header_lines, lambda words, place: f"fault {words} byt
                           bundle_lines)
 
 
-def shown_lines(data: bytes) -> Tuple[List[str], bool]:
-    """The lines of a file, and whether it is whole (FORMATS.md#shown-text)."""
-    return told(data, AS_TEXT)
-
-
 def shown_runs(data: bytes) -> List[bytes]:
-    """The run ids of a file that is whole, run by run (COMMANDS.md#exit-status)."""
+    """The run ids of a file of runs that is whole, run by run (COMMANDS.md#exit-status)."""
     if data[:1] in (b"\x01", b"\x02"):
         return [read_header(Cursor(data, "H9"), None).run_id]
     if data[:4] in EVIDENCE_MARKS.values():
@@ -222,7 +221,3 @@ def shown_runs(data: bytes) -> List[bytes]:
     bundles = read_campaign(data) if data.startswith(CAMPAIGN_MARK) else [read_bundle(data)]
     return [bundle.header.run_id for bundle in bundles]
 
-
-def shown_text(data: bytes) -> bytes:
-    """The shown text of a file (FORMATS.md#shown-text)."""
-    return "".join(line + "\n" for line in shown_lines(data)[0]).encode()

@@ -1,16 +1,16 @@
-"""What a file is, as lines of JSON."""
+"""What a file of runs is, as lines of JSON."""
 
 from __future__ import annotations
 
-from typing import Dict, List, Sequence, Tuple
+from typing import Dict, List, Sequence
 
 from .bundle import Bundle
 from .evidence import Across, Departing, Evidence, Missing
 from .faults import Fault
-from .json_text import VERSION, Value, evidence_value, line_of, network_value
+from .json_text import VERSION, Value, evidence_value, network_value
 from .log import Decide, Entry, Recv, Send, Sign, Start, read_log
 from .network import Header, Path
-from .show import Form, entries_of, logs_of, runs_of, told
+from .show import Form, entries_of, logs_of, runs_of
 
 
 def shown(what: str, **fields: object) -> Value:
@@ -90,8 +90,3 @@ def evidence_values(evidence: Evidence) -> List[Value]:
 AS_JSON: Form[Value] = Form(header_values, lambda words, place: shown("shown fault", fault=words, byte=place), shown("shown end"),
                             evidence_values, campaign_values, bundle_values)
 
-
-def show(given: bytes) -> Tuple[int, bytes]:
-    """The lines of a file (FORMATS.md#the-shown-file)."""
-    values, whole = told(given, AS_JSON)
-    return 0 if whole else 1, b"".join(line_of(value) for value in values)

@@ -78,5 +78,5 @@ def lost_text(row: Row) -> str:
 # The reference's answer to each call; the form in which a command is called changes only that of a lost output.
 CALLS: Dict[str, Callable[[Row], str]] = {
     "words": asked_text, "command": command_text, "over_bytes": command_text, "in_place": command_text,
-    "lost": lost_text,
+    "judged_again": command_text, "lost": lost_text,
 }

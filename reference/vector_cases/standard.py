@@ -6,10 +6,11 @@ from typing import Iterable, List
 
 from model import lms
 
-from .parts import Vector, with_byte
+from .parts import Vector, command_of_files, packed, with_byte
 
 IDENTIFIER, SEED = bytes(range(16)), bytes(range(32))
 LEAVES = {0: b"", 5: b"close the valve", 31: bytes(1000)}
+FILES = {"KEY": "public key", "TEXT": "text", "SIGNATURE": "signature"}
 
 
 def told(public: bytes, text: bytes, signature: bytes) -> str:
@@ -26,6 +27,12 @@ def verified(about: str, public: bytes, text: bytes, signature: bytes) -> Vector
             "verifying": told(public, text, signature)}
 
 
+def commanded(vector: Vector) -> Vector:
+    """The whole command on the files of such a vector."""
+    files = {name: packed(bytes.fromhex(vector[field])) for name, field in FILES.items()}
+    return command_of_files(f"the command: {vector['about']}", "lms-verify KEY TEXT SIGNATURE", files)
+
+
 def bent_vectors(public: bytes, text: bytes, signature: bytes) -> List[Vector]:
     """What is refused, and what fails."""
     at = {"the leaf": 3, "the type of the one-time key": 7, "the randomizer": 8, "the last chain": 8 + 67 * 32,
@@ -39,6 +46,7 @@ def bent_vectors(public: bytes, text: bytes, signature: bytes) -> List[Vector]:
             verified("another text", public, text + b"s", signature),
             verified("another type of tree in the key", with_byte(public, 3, 6), text, signature),
             verified("a type that no tree has", with_byte(public, 3, 10), text, signature),
+            verified("a type that no one-time key has", with_byte(public, 7, 4), text, signature),
             verified("a key that is cut", public[:-1], text, signature)]
 
 
@@ -49,5 +57,7 @@ def lms_vectors() -> Iterable[Vector]:
     signed = {leaf: lms.sign(IDENTIFIER, SEED, nodes, leaf, text).spell() for leaf, text in LEAVES.items()}
     for leaf, text in LEAVES.items():
         made = {"identifier": IDENTIFIER.hex(), "seed": SEED.hex(), "leaf": leaf}
-        yield {**verified(f"the signature under leaf {leaf}", public, text, signed[leaf]), **made}
-    yield from bent_vectors(public, LEAVES[5], signed[5])
+        holds = verified(f"the signature under leaf {leaf}", public, text, signed[leaf])
+        yield from ({**holds, **made}, commanded(holds))
+    for bent in bent_vectors(public, LEAVES[5], signed[5]):
+        yield from (bent, commanded(bent))

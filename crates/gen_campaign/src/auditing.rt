@@ -1,18 +1,47 @@
 //! The audit of a campaign.
 ghost use Rattle.std.specs.Prelude.{◌≡◌, [], true, IfErr, IfOk, map};
+ghost use Rattle.std.specs.List.{AllZip};
 ghost use Rattle.gen_convict.specs.AcrossLaws.{AreConvictedAcross, AreEvidenceAcross, ConvictsAcrossWhereHeld};
 ghost use Rattle.gen_convict.specs.Evidence.{told_of};
 ghost use Rattle.gen_audit.specs.Faults.{IsFaultBy};
+ghost use Rattle.gen_audit.specs.Telling.{AreReports};
 ghost use Rattle.gen_campaign.specs.Judged.{AreJudged, shown_bundles};
 
 use crate::campaigns::CampaignBundle;
 use crate::judging::judge_campaign;
 use crate::lists::keep;
 use crate::verdicts::CampaignVerdict;
-use gen_audit::{AuditFault, JobGate, WorkerCount, reports_by_workers};
+use gen_audit::{AuditFault, Bundle, JobGate, WorkerCount, reports_by_workers};
+use gen_local::LocalReport;
 use std::alloc::Global;
 use std::sync::Wait;
 use std::thread::Threads;
+
+/// Returns the reports on the exhibits of each bundle, in the order of the bundles, made by this number of workers as
+/// `reports_by_workers` of `gen_audit` makes them. They do not depend on who is assumed faulty. The gate is called for
+/// the pieces of each run, which are counted from 0 in each run.
+///
+/// # Errors
+///
+/// Those of `audit_campaign`.
+pub fn reports_of_runs<R: Threads + Wait + Sync, G: JobGate + Sync>(
+    rt: &R,
+    alloc: Global,
+    bundles: &[Bundle],
+    workers: WorkerCount,
+    gate: &G,
+) -> Result<Vec<Vec<LocalReport>>, AuditFault>
+    ensures reports { IfOk result (λ seen. AllZip AreReports bundles.now (map (λ v. v.items) seen.items)) }
+    ensures fault { IfErr result (IsFaultBy workers) }
+{
+    let mut seen = Vec::with_capacity(alloc, bundles.len())?;
+    for bundle in bundles {
+        let (header, exhibits) = (bundle.header(), bundle.exhibits());
+        let reports = reports_by_workers(rt, alloc, header, exhibits, workers, gate)?;
+        keep(&mut seen, reports)?;
+    }
+    Ok(seen)
+}
 
 /// Returns the verdict on a campaign. For each run it has the judgement on the run's bundle alone, as
 /// `audit` of `gen_audit` makes it, in the order of the runs. It also has the evidence that the exhibits
@@ -50,12 +79,6 @@ pub fn audit_campaign<R: Threads + Wait + Sync, G: JobGate + Sync>(
     // Only an audit by several workers answers that a thread could not be started.
     ensures fault { IfErr result (IsFaultBy workers) }
 {
-    let bundles = campaign.bundles();
-    let mut seen = Vec::with_capacity(alloc, bundles.len())?;
-    for bundle in bundles {
-        let (header, exhibits) = (bundle.header(), bundle.exhibits());
-        let reports = reports_by_workers(rt, alloc, header, exhibits, workers, gate)?;
-        keep(&mut seen, reports)?;
-    }
+    let seen = reports_of_runs(rt, alloc, campaign.bundles(), workers, gate)?;
     Ok(judge_campaign(alloc, campaign, seen.as_slice())?)
 }

@@ -42,6 +42,14 @@ impl Model for CampaignBundle {
 }
 
 impl CampaignBundle {
+    /// Returns what these bundles show of a campaign: one that stands alone, or those of its runs. It takes no memory.
+    pub fn of(alone: bool, bundles: Vec<Bundle>) -> CampaignBundle
+        requires { IsCampaign (record { alone = alone; bundles = bundles.items }) }
+        ensures { result ≡ record { alone = alone; bundles = bundles.items } }
+    {
+        CampaignBundle { alone, bundles }
+    }
+
     /// Returns whether this is a bundle that stands alone.
     pub fn is_alone(&self) -> bool
         ensures value { result ≡ self.now.alone }

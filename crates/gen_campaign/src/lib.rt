@@ -39,7 +39,7 @@ mod series;
 mod series_fault;
 mod verdicts;
 
-pub use auditing::audit_campaign;
+pub use auditing::{audit_campaign, reports_of_runs};
 pub use campaign_fault::CampaignFault;
 pub use campaign_reading::{read_campaign, read_shared_campaign, read_taken_campaign};
 pub use campaign_text::{one_campaign_text, read_campaign_text, texts_make_campaigns};
@@ -47,7 +47,8 @@ pub use campaign_writing::{put_bundles, write_campaign};
 pub use campaigns::CampaignBundle;
 pub use faults::push_campaign_fault;
 pub use fronts::{CAMPAIGN_FRONT, several_front};
-pub use in_place::audit_campaign_in_place;
+pub use in_place::{audit_campaign_in_place, reports_in_place};
+pub use judging::judge_campaign;
 pub use making::make_campaign;
 pub use places::{place_of, places_name_runs};
 pub use run_lists::{file_runs, run_ids};

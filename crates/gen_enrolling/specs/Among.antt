@@ -24,10 +24,16 @@ abbrev pub receipt_ids : Result ReceiptFile ReceiptFault → Option (List (List 
 receipt_ids (Ok file) = Some (run_id_of file.header ∷ [])
 receipt_ids (Err fault) = None
 
+-- the ids of the runs that a file is of that is shown: those of receipts, if it is some, and else its own
+abbrev pub shown_ids : Option (List (List ℕ)) → List ℕ → Option (List (List ℕ))
+shown_ids (Some ids) input = Some ids
+shown_ids None input = runs_as (file_kind input) input
+
 -- the ids of the runs that the input of a job is of, if it reads
 abbrev pub ids_of : Job → List ℕ → Option (List (List ℕ))
 ids_of (jobs.AccuseReceipts general asked) input = receipt_ids (whole_file input)
 ids_of (jobs.Receipts asked form) input = receipt_ids (whole_file input)
+ids_of (jobs.Show asked form) input = shown_ids (receipt_ids (whole_file input)) input
 ids_of job input = runs_as (file_kind input) input
 
 -- the job whose input must be of these runs; a job that compares no runs stays

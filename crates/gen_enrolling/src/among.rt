@@ -4,7 +4,7 @@ ghost use Rattle.gen_asked.specs.declared.forms.Form.TheVariants.{Json};
 ghost use Rattle.gen_asked.specs.Ranges.{IsInRange};
 ghost use Rattle.gen_receipt.specs.ReceiptReading.{whole_file};
 ghost use Rattle.gen_enrolling.specs.Admitted.{LacksRuns};
-ghost use Rattle.gen_enrolling.specs.Among.{AreOwn, IsAskedAmong, form_of, ids_of, receipt_ids, told_text, with_runs};
+ghost use Rattle.gen_enrolling.specs.Among.{AreOwn, IsAskedAmong, form_of, ids_of, receipt_ids, shown_ids, told_text, with_runs};
 ghost use Rattle.gen_enrolling.specs.ToldReading.{ReadsBeside};
 
 use crate::admitted::{AdmittedRuns, runs_admitted};
@@ -29,6 +29,17 @@ fn receipt_ids(alloc: Global, input: &[u8]) -> Result<Option<Vec<[u8; 32]>>, All
     }
 }
 
+/// Returns the ids of the runs that a file is of that is shown: receipts, or another one; None if it does not read.
+fn shown_ids(alloc: Global, input: &[u8]) -> Result<Option<Vec<[u8; 32]>>, AllocError>
+    ensures { IfOk result (λ ids. option_map (λ v. v.items) ids
+        ≡ shown_ids (receipt_ids (whole_file input.now)) input.now) }
+{
+    match receipt_ids(alloc, input)? {
+        Some(ids) => Ok(Some(ids)),
+        None => file_runs(alloc, input),
+    }
+}
+
 /// Returns the ids of the runs that the input of a job is of; None if it does not read.
 fn ids_of(alloc: Global, job: &Job, input: &[u8]) -> Result<Option<Vec<[u8; 32]>>, AllocError>
     ensures { IfOk result (λ ids. option_map (λ v. v.items) ids ≡ ids_of job.now input.now) }
@@ -36,6 +47,7 @@ fn ids_of(alloc: Global, job: &Job, input: &[u8]) -> Result<Option<Vec<[u8; 32]>
     match job {
         Job::AccuseReceipts { .. } => receipt_ids(alloc, input),
         Job::Receipts { .. } => receipt_ids(alloc, input),
+        Job::Show { .. } => shown_ids(alloc, input),
         _ => file_runs(alloc, input),
     }
 }

@@ -18,9 +18,19 @@ end campaign|end campaign|The text on the campaign ends here.\n\
 general G set S decides V|general G set S decides V|In this scenario, or by a receipt that holds, general G accepts the orders S and decides order V.\n\
 holds|evidence holds|The claim is so, and the signatures of its texts and of the head of a log in it verify: the accused signed this, or somebody else has the keys of the accused.\n\
 fails|evidence fails|The claim is not so, or one of its signatures does not verify: this claim is not shown against the accused.\n\
-shown|shown S|More generals than the planned number of traitors show the orders S by receipts that hold, where a hyphen is none.\n\
+shown|shown S|More generals than the planned number of traitors have receipts that hold for each of the orders S, where a hyphen is none.\n\
 general G fails|general G fails|The signature of this receipt does not verify as that of general G: it shows nothing.\n\
 general G convicted|general G convicted|Two receipts with different heads are signed with keys of general G: accuse --receipts writes the evidence.\n\
+verifies|signature verifies|The signature of the text verifies under the public key: whoever has the secret of the key signed this text.\n\
+signature fails|signature fails NAMES|The signature of the text does not verify under the public key, and the reason follows.\n\
+W1|W1|The signature has not the number of bytes of one by the tree of the public key.\n\
+W2|W2|The type code of the one-time signature is not that of LMOTS_SHA256_N32_W4.\n\
+W3|W3|The type code of the tree in the signature is not that of the public key.\n\
+W4|W4|The tree of the public key has no leaf of the number in the signature.\n\
+W5|W5|The signature leads to another root: the text is another than the one that was signed, or the key is, or a byte of the signature is another.\n\
+D1|D1|The public key has not 56 bytes.\n\
+D2|D2|The type code of the tree in the public key is none of LMS_SHA256_M32_H5 to H25.\n\
+D3|D3|The type code of the one-time keys in the public key is not that of LMOTS_SHA256_N32_W4.\n\
 forged statement|forged statement order V path P|The evidence has the statement of order V with the path P, signed with keys of the accused, and the log of the accused does not have it.\n\
 forged head|forged head entries N link L|The evidence has the head of a log of N entries with the last link L, signed with keys of the accused, and the log of the accused is another.\n\
 collision|collision A B|These are two different strings of bytes with one hash: A and B.\n\
@@ -77,7 +87,7 @@ H9|H9|The bytes end before the header does.\n\
 H10|H10|The first byte of the header is no version, or is not the version of the mark. A line behind the fault says what the file is, if its first bytes tell.\n\
 H11|H11|The slot is above 3.\n\
 G1|G1|The input is no seed and no secret, since it has not 32 bytes.\n\
-R1|R1|The input is not of the runs that --run names, in their order.\n\
+R1|R1|The input is not of the runs that --run names, in their order: show says which its runs are.\n\
 B1|B1|The input ends before the bundle does.\n\
 B2|B2|The first four bytes are neither SMB1 nor SMB2; in a campaign, they are not SMB2. A line behind the fault says what the file is, if its first bytes tell.\n\
 B3|B3|The header of the bundle has a fault, which follows.\n\
@@ -187,20 +197,38 @@ kind 5|kind 5 two texts under one leaf in two runs|Two different texts are signe
 text statement|text F statement round R order V path W|The F text is the statement of order V with the path W, signed in round R.\n\
 text head|text F head of G entries K link L|The F text is the head of a log of general G with K entries and the last link L.\n\
 departs|departs entry I|The log of the accused departs from the algorithm with entry I, counted from 0.\n\
+receipt I|receipt I of G entries K link L set S order V|Receipt I, counted from 0, says that general G decided order V of the orders S, with K entries and the link L.\n\
+format F version E|format F version E|The format is F, of version E.\n\
+system id|system id S|The id of the system is S: compare it with an id that you know.\n\
+proposer first|proposer first|Node 0 proposes in each run.\n\
+turns|proposer turns|Each node proposes in its turn.\n\
+levels H|levels H|A node has 2 to the power of H sets of keys.\n\
+runs K|runs K|The system has K runs.\n\
+context C|context C|The users chose the context C.\n\
+node V|node V F D|The F of node V is D.\n\
+set S|set S|The admission is of the set of keys S.\n\
+run id|run N id D|If the admission holds, the run id of run N is D.\n\
+admission holds|admission holds|Each root is shown as that of its node.\n\
+admission fails|admission fails|Some root is not shown as that of its node.\n\
+sets K|sets K|The file has the roots of K sets.\n\
+set root|set S root D|The keys of set S have the root D.\n\
+identity D|identity D|The identity over these roots is D.\n\
 assumed faulty|assumed faulty|The judgement holds the general for faulty, and no conviction of this run names the general, which may have followed the algorithm.\n\
 suspected|suspected|One of the findings N1 to N9 names the general, which is neither convicted nor assumed faulty: another one may have caused the finding.\n\
 nothing found|nothing found|Nothing was found against the general, which is not assumed faulty: it may still have departed from the algorithm.\n\
 accused|accused|The general that the evidence accuses.\n\
+admission|admission|A file with the roots of one set.\n\
 admitted|admitted|What an admission tells of the runs of the input.\n\
 asked|asked|What was asked for beside the input: the list of those assumed faulty, and the runs.\n\
-bundle|bundle|A file with the logs of one run: a header, the list of those assumed faulty, walks and logs.\n\
+bundle|bundle|A file with the logs of one run.\n\
 byte|byte|The byte of the file at which this stands, counted from 0.\n\
 bytes|bytes|How many bytes the input has.\n\
-campaign|campaign|A file with the bundles of several runs, or the text that says which these are.\n\
+campaign|campaign|A file with the bundles of several runs, or its text.\n\
 campaign text|campaign text|The text that a campaign is run from.\n\
 campaign verdict|campaign verdict|The object of the verdicts on the runs of a campaign.\n\
 choice|choice|The number of the rule by which a lieutenant decides one of several orders.\n\
 claim|claim|What the evidence says of the accused.\n\
+context|context|The context of a system.\n\
 convictions|convictions|The generals against which the logs hold a contradiction, each with its kind.\n\
 decides|decides|The order that the receipt says its general decided.\n\
 decide|decide|The last entry of a log: which orders the general accepted, and which it decided.\n\
@@ -215,7 +243,7 @@ evidence|evidence|A file with what is signed against one general, which holds or
 faulty|faulty|The generals that are assumed faulty; of decisions those with a script.\n\
 file|file|The format of the file.\n\
 findings|findings|What the audit found, in the order of the names N1 to N11.\n\
-first|first|The first of two generals, runs or texts.\n\
+first|first|The first of two generals, runs or texts, or of all nodes.\n\
 format|format|Which object this is.\n\
 frame|frame|What one node sends another in a round.\n\
 from|from|The general that sent the message.\n\
@@ -223,10 +251,15 @@ general|general|The number of a general.\n\
 generals|generals|How many generals the network has, or the two that have the same root.\n\
 head|head|The end of a log, which its general signed: how many entries there are, and the last link.\n\
 header|header|What all nodes of a run share: the network and the root of each general.\n\
+identities|identities|The identities of all nodes.\n\
+identity|identity|An identity of a node.\n\
 id|id|The name of the finding, or of the kind of conviction.\n\
 input|input|What was judged: its name, its length and its SHA-256.\n\
+key_set|key_set|The number of a set of keys.\n\
 kind|kind|Which entry, which evidence or which input this is.\n\
 last_link|last_link|The hash of all entries of a log.\n\
+levels|levels|The levels of an identity.\n\
+link|link|The hash of all entries of a log but the last.\n\
 length|length|How many bytes the log has.\n\
 logs|logs|What each log that reads says its general decided, in the order of the file.\n\
 missing|missing|The statement that is signed and that the log has no SIGN of.\n\
@@ -242,30 +275,39 @@ own|own|The order with which the commander began, or null.\n\
 parted|parted|The least two generals of the rest that no walk of few enough edges of the rest joins, or null.\n\
 path|path|The generals that signed the message, in their order.\n\
 place|place|The place of a run in its campaign, counted from 0.\n\
-receipts|receipts|What generals show of the ends of their logs: a file of them, its object, or the list of them.\n\
+proposer|proposer|Who proposes.\n\
+receipt|receipt|The number of a receipt.\n\
+receipts|receipts|Ends of logs, which show decisions: a file, its object or a list.\n\
 recv|recv|An entry for a message that was received.\n\
 root|root|The root of the keys of a general.\n\
-roots|roots|The roots of the keys of all generals, in the order of their numbers.\n\
+roots|roots|The roots of the keys of all generals, in the order of their numbers; or a file of roots.\n\
 round|round|The number of a round, counted from 1.\n\
 run|run|A run: by its id, or by its place, counted from 0.\n\
 run_version|run_version|The version of the formats that the run has.\n\
-runs|runs|The verdicts on the runs, or how many runs there are.\n\
+runs|runs|The runs, the verdicts on them, or how many there are.\n\
 scenario text|scenario text|The text that a run is made from, or a header.\n\
 second|second|The second of two generals, runs or texts.\n\
 send|send|An entry for a message that was sent.\n\
 set|set|The orders that the general accepted.\n\
+sets|sets|How many sets there are.\n\
 sha256|sha256|The SHA-256 of the input.\n\
+shown admission|shown admission|The object of an admission.\n\
 shown campaign|shown campaign|The object of a file that is a campaign.\n\
 shown campaign end|shown campaign end|The last object of a campaign.\n\
 shown equal roots|shown equal roots|The object of two generals with the same root.\n\
-shown end|shown end|The last object of a bundle, of evidence or of a header.\n\
+shown end|shown end|The last object of a file that is no campaign.\n\
 shown entry|shown entry|The object of an entry.\n\
 shown fault|shown fault|The object of what does not read.\n\
 shown faulty|shown faulty|The object of the list of those that the file assumes faulty.\n\
 shown head|shown head|The object of the head of a log.\n\
 shown header|shown header|The object of a header.\n\
+shown identity|shown identity|The object of an identity.\n\
 shown log|shown log|The object of a log that reads.\n\
+shown receipt|shown receipt|The object of a receipt.\n\
+shown root|shown root|The object of a root.\n\
+shown roots|shown roots|The object of a file of roots.\n\
 shown run|shown run|The object of a run of a campaign, before that of its header.\n\
+shown system|shown system|The object of a system.\n\
 shown walk|shown walk|The object of a walk.\n\
 sign|sign|An entry for a statement that was signed.\n\
 slot|slot|Which of the four runs of one tree of keys this run is.\n\
@@ -273,7 +315,7 @@ start|start|The first entry of a log.\n\
 statement|statement|An order with a path: what a general signs to send it on.\n\
 status|status|What the judgement says of a general: convicted, assumed faulty, suspected or nothing found; of a fault the exit status.\n\
 statuses|statuses|The status of each general.\n\
-system|system|The id of the system.\n\
+system|system|A system, or its id.\n\
 text|text|Whether what is signed is a statement or the head of a log.\n\
 to|to|The general that the message was sent to.\n\
 tool|tool|The version of the program that answered.\n\

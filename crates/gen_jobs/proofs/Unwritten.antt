@@ -18,6 +18,9 @@ no_plan_writes version input (Some kinds.Evidence) h = h
 no_plan_writes version input (Some kinds.Receipts) h = h
 no_plan_writes version input (Some kinds.Frame) h = h
 no_plan_writes version input (Some kinds.Header) h = h
+no_plan_writes version input (Some kinds.System) h = h
+no_plan_writes version input (Some kinds.Admission) h = h
+no_plan_writes version input (Some kinds.Roots) h = h
 no_plan_writes version input (Some kinds.ScenarioText) h = h
 no_plan_writes version input (Some kinds.CampaignText) h = h
 

@@ -1,14 +1,12 @@
 //! The job `judge`: runs a scenario, and audits its logs meanwhile.
-ghost use Rattle.std.specs.Prelude.{◌<◌, IfOk, IfErr, IfSome, option_map};
-ghost use Rattle.gen_ends.specs.Answering.{Answers};
+ghost use Rattle.std.specs.Prelude.{◌<◌, IfOk, IfErr, option_map};
 ghost use Rattle.gen_jobs.specs.Judging.{IsJudgedAs, JudgesRunAs};
-ghost use Rattle.gen_ends.specs.Ends.{IsTaken, KeepsUntilWhole};
 ghost use Rattle.gen_making.specs.Run.{IsOfRun, IsRunFault};
 ghost use Rattle.gen_campaign.specs.Judged.{IsJudged};
 
 use gen_asked::{Asked, AskedRuns, Faulty, Form};
 use gen_audit::{AuditFault, Bundle, Judgement, WorkerCount};
-use gen_ends::{JobEnd, JobFault, Open, Output, deliver, read_all};
+use gen_ends::{JobFault, Open, Output};
 use gen_json::Origin;
 use gen_judge::run_and_audit_bundle;
 use gen_judging::{counted, has_few, judgement_output, origin_in};
@@ -17,7 +15,6 @@ use gen_plan::equal_roots;
 use gen_prepare::walks_between;
 use gen_scenario::Scenario;
 use std::alloc::{AllocError, Global};
-use std::io::{Read, Write};
 use std::sync::Wait;
 use std::thread::Threads;
 
@@ -102,42 +99,4 @@ pub(crate) fn judge<T: Threads + Wait + Sync>(
     let origin = origin_in(alloc, form, name, &nothing, input)?;
     let output = told_judgement(alloc, &origin, strict, &scenario, &bundle, &judgement)?;
     Ok(output)
-}
-
-/// Reads a scenario text with a seed to its end, runs it while this many workers audit the logs that are there, and
-/// writes in this form the verdict on the bundle that `run_engine` would write. Each general runs in a thread of its own; the edges
-/// hold `capacity` frames each, at least one. The end is negative if the verdict counts as a no: a no does, and if it
-/// is asked strictly, `explained` and a header with equal roots too.
-///
-/// A fault of the input is looked for after the whole input was read, and nothing is written before the output is
-/// whole. If a read, a write, memory or a thread fails, the job ends with that fault.
-#[tactic(auto, using(gen_ends::proofs::Delivering::output_engine))]
-pub fn judge_engine<T: Threads + Wait + Sync, R: Read, W: Write>(
-    rt: &T,
-    alloc: Global,
-    capacity: u8,
-    workers: WorkerCount,
-    form: Form,
-    strict: bool,
-    name: Option<&str>,
-    reader: &mut R,
-    writer: &mut W,
-) -> JobEnd
-    requires { 0 < capacity }
-    // What is written is the verdict on the run of the scenario that was read.
-    ensures answers { IfSome (R.remaining reader.old) (λ input.
-        Answers (IsJudgedAs form strict (option_map (λ t. t.now) name.entry) input) (IsRunFault input)
-        (W.contents writer.old) (W.contents writer.new) result) }
-    // What was read is within the limit.
-    ensures taken { IfSome (R.remaining reader.old) (λ input. IsTaken input result) }
-    // Nothing is written before the output is whole.
-    ensures late { KeepsUntilWhole (W.contents writer.old) (W.contents writer.new) result }
-{
-    match read_all(alloc, reader) {
-        Ok(input) => deliver(
-            writer,
-            judge(rt, alloc, capacity, workers, form, strict, name, &input),
-        ),
-        Err(fault) => JobEnd::Failed(fault),
-    }
 }

@@ -55,16 +55,16 @@ abbrev IsPlain : Data → Type 0
 IsPlain d = has_float d ≡ false
 
 -- the text is the lines of some values without floats
-abbrev Lined : List ℕ → Type 0
+abbrev pub Lined : List ℕ → Type 0
 Lined text = (values : List Data) × AreLines text values
 
-nothing : Lined []
+pub nothing : Lined []
 nothing = ([], record { plain = All-nil IsPlain; lines = refl })
 
-line : (d : Data) → IsPlain d → Lined (json_line d)
+pub line : (d : Data) → IsPlain d → Lined (json_line d)
 line d h = (d ∷ [], record { plain = All-cons IsPlain d [] h (All-nil IsPlain); lines = sym (append-nil (json_line d)) })
 
-both : (a b : List ℕ) → Lined a → Lined b → Lined (a ++ b)
+pub both : (a b : List ℕ) → Lined a → Lined b → Lined (a ++ b)
 both a b x y = (
   x.0 ++ y.0,
   record {
@@ -80,7 +80,7 @@ equal_roots_lined [] = nothing
 equal_roots_lined (pair ∷ pairs) =
     both (equal_roots_line pair) (flat_map equal_roots_line pairs) (line (equal_roots_data pair) (equal_roots_plain pair)) (equal_roots_lined pairs)
 
-head : (name : List ℕ) (h : RunHeader) → Lined (header_lines name h)
+pub head : (name : List ℕ) (h : RunHeader) → Lined (header_lines name h)
 head name h =
     unfold header_lines in
     both (json_line (header_data name h)) (flat_map equal_roots_line (equal_roots h)) (line (header_data name h) (header_plain name h)) (equal_roots_lined (equal_roots h))
@@ -108,7 +108,7 @@ log h general at bytes = unfold log_lines in reading general at (length bytes) (
 
 -- ---- bundles
 
-ending : Lined end_line
+pub ending : Lined end_line
 ending = line (end_data (codes "shown end")) (end_plain (codes "shown end"))
 
 walk : (w : List ℕ) → Lined (walk_line w)
@@ -188,14 +188,14 @@ evidence holds x =
 
 -- ---- files
 
-fault : (name : List ℕ) (at : ℕ) → Lined (fault_line name at)
+pub fault : (name : List ℕ) (at : ℕ) → Lined (fault_line name at)
 fault name at = unfold fault_line in line (fault_data name at) (fault_plain name at)
 
 front : (name : List ℕ) (r : Result (RunHeader × List ℕ) FrontFault) → Lined (front_lines name r)
 front name (Ok f) = head name f.0
 front name (Err f) = nothing
 
-faulty : (name : List ℕ) (marks : Marks) (bytes name_of : List ℕ) → Lined (faulty_lines name marks bytes name_of)
+pub faulty : (name : List ℕ) (marks : Marks) (bytes name_of : List ℕ) → Lined (faulty_lines name marks bytes name_of)
 faulty name marks bytes name_of =
     unfold faulty_lines in
     both (front_lines name (front_at marks bytes)) (fault_line name_of (front_end marks (front_at marks bytes)))
@@ -216,7 +216,7 @@ header bytes (Ok x) =
 header bytes (Err f) = fault (header_fault_name f) 0
 
 -- a text that is another is lined as that is
-same : (text other : List ℕ) → text ≡ other → Lined other → Lined text
+pub same : (text other : List ℕ) → text ≡ other → Lined other → Lined text
 same text other e x = (x.0, record { plain = x.1.plain; lines = e ∙ x.1.lines })
 
 evidence_text : (bytes text : List ℕ) (r : Result HeaderAndEvidence EvidenceFault) → IsEvidenceText bytes text r → Lined text

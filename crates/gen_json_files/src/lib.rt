@@ -16,5 +16,5 @@ pub mod laws;
 mod showing;
 mod verdicts;
 
-pub use showing::show_json;
+pub use showing::{faulty, show_json};
 pub use verdicts::print_campaign_json;

@@ -44,7 +44,7 @@ fn push_front(
 
 /// Returns the lines of what doesn't read: the header, if that reads, and the fault.
 #[tactic(auto, unfolding(crate::specs::ShowingLines::faulty_lines))]
-fn faulty(
+pub fn faulty(
     alloc: Global,
     name: &str,
     marks: Marks,

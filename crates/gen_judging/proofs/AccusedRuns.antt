@@ -1,14 +1,12 @@
 -- Who is accused by what several runs show.
-use Rattle.std.proofs.Common.{◌≡◌, ◌<◌, ◌+◌, ◌⊎◌, inl, inr, ℕ, zero, suc, Bool, true, false, not, List, [], ◌∷◌, ◌++◌, length, map, take, drop, get_or, Contains, refl, sym, ap, subst, ◌∙◌, arith}
+use Rattle.std.proofs.Common.{◌≡◌, ◌<◌, ◌+◌, inl, inr, ℕ, zero, suc, Bool, true, false, not, List, [], ◌∷◌, ◌++◌, length, take, drop, get_or, refl, sym, ap, subst, ◌∙◌, arith}
 use Rattle.std.specs.Prelude.{All}
-use Rattle.std.specs.List.{AllZip}
-use Rattle.std.proofs.lemmas.List.{take_more, take_all, take-append-drop, drop_more}
+use Rattle.std.proofs.lemmas.List.{take_more, take-append-drop, drop_more}
 use Rattle.std.proofs.lemmas.List.Elements.{All-push}
 use Rattle.gen_convict.specs.Across.{IsFirstAcross, ShownRun}
 use Rattle.gen_convict.specs.AcrossLaws.{AreConvictedAcross, ConvictsAcrossWhereHeld}
 use Rattle.gen_convict.specs.Contradictions.{AcrossRuns, Claim}
 use Rattle.gen_convict.specs.Evidence.{Accusation}
-use Rattle.gen_convict.specs.EvidenceSpelling.{evidence_spelling}
 use Rattle.gen_convict.specs.declared.run_texts.RunText.{RunText}
 use Rattle.gen_audit.specs.Bundle.{Bundle}
 use Rattle.gen_audit.specs.declared.verdicts.Judgement.{Judgement}

@@ -1,5 +1,5 @@
 -- What the judgements on what is shown make of its picture.
-use Rattle.std.proofs.Common.{◌≡◌, ◌<◌, ◌^◌, ℕ, Bool, true, false, List, [], ◌∷◌, map, length, arith}
+use Rattle.std.proofs.Common.{◌≡◌, ◌<◌, ◌^◌, ℕ, Bool, true, false, List, [], ◌∷◌, length, arith}
 use Rattle.std.specs.Prelude.{if◌then◌else◌}
 use Rattle.gen_convict.specs.AcrossLaws.{AreConvictedAcross, ConvictsAcrossWhereHeld}
 use Rattle.gen_convict.specs.Evidence.{Accusation}

@@ -5,7 +5,6 @@ use Rattle.std.proofs.lemmas.List.Elements.{All-contains, All-head, All-nil, All
 use Rattle.std.proofs.lemmas.List.Kept.{AllPairs-cons}
 use Rattle.std.proofs.lemmas.Bool.{lt-ltb}
 use Rattle.std.proofs.lemmas.List.{take_more}
-use Rattle.gen_types.specs.Spelled.{Spells}
 use Rattle.gen_types.proofs.Lists.{All_of, AllPairs_head, AllPairs_tail, Contains_cases, Contains_here, Contains_nil, Contains_there}
 use Rattle.gen_net.specs.Header.{RunHeader}
 use Rattle.gen_net.specs.Network.{IsNetwork, Network}
@@ -18,7 +17,6 @@ use Rattle.gen_audit.specs.WorldBundle.{AreWalksOfRun}
 use Rattle.gen_audit.proofs.BundleParts.{below_known, below_told}
 use Rattle.gen_audit.proofs.WalkParts.{best_are_listed}
 use Rattle.gen_campaign.specs.Campaign.{AreRuns, AreShown, CampaignBundle, IsCampaign, IsRunBundle, IsSecond, Joins, JoinsRun}
-use Rattle.gen_campaign.specs.CampaignSpelling.{campaign_spelling}
 use Rattle.gen_prepare.specs.Holding as prepared
 use Rattle.gen_judging.specs.Holding.{IsHeld, IsHeldAs, first_lack, lack_fault, lacks}
 use Rattle.gen_asked.specs.declared.faulty.Faulty.TheVariants.{These}
@@ -156,34 +154,21 @@ few_shown true (b ∷ c ∷ bs) shown = absurd shown
 few_shown true (b ∷ []) shown = omega arith
 few_shown false bs shown = shown.few
 
--- ---- the bytes of what is shown so
-
 -- as what is shown is, with these bundles
-abbrev pub shown_with : CampaignBundle → List Bundle → CampaignBundle
-shown_with shown hs = record { alone = shown.alone; bundles = hs }
+abbrev pub shown_with : Bool → List Bundle → CampaignBundle
+shown_with alone hs = record { alone = alone; bundles = hs }
 
--- they are the spelling of what is shown of a campaign
-pub shown_again : (faulty : List ℕ) (shown : CampaignBundle) (alone : Bool) (bs hs ss : List Bundle) (bytes : List ℕ)
-    → IsCampaign shown → AllPairs (λ v w. v < w) faulty → All (HasAll faulty) shown.bundles
-    → alone ≡ shown.alone → bs ≡ shown.bundles → AllZip (IsHeld faulty) bs hs → ss ≡ hs → bytes ≡ campaign_spelling (record { alone = alone; bundles = ss })
-    → Spells IsCampaign campaign_spelling bytes (shown_with shown hs)
-shown_again faulty shown alone bs hs ss bytes is up none same_form same_bundles are same_held spelled = record {
-  fits = held_shown faulty shown.alone shown.bundles hs is up none (subst (λ (xs : List Bundle). AllZip (IsHeld faulty) xs hs) same_bundles are);
-  spelled = spelled ∙ (λ i. campaign_spelling (record { alone = same_form i; bundles = same_held i }));
-}
+-- it is what is shown of a campaign
+pub is_campaign : (faulty : List ℕ) (shown : CampaignBundle) (alone : Bool) (bs hs : List Bundle)
+    → IsCampaign shown → AllPairs (λ v w. v < w) faulty → All (HasAll faulty) bs
+    → alone ≡ shown.alone → bs ≡ shown.bundles → AllZip (IsHeld faulty) bs hs → IsCampaign (shown_with alone hs)
+is_campaign faulty shown alone bs hs is up none same_form same_bundles are =
+    held_shown faulty alone bs hs (subst (λ (a : Bool). AreShown a bs) (sym same_form) (subst (λ (xs : List Bundle). AreShown shown.alone xs) (sym same_bundles) is)) up none are
 
--- what is read of them is what is shown so
-pub again_held : (faulty : List ℕ) (shown : CampaignBundle) (bs hs : List Bundle) (read : CampaignBundle)
-    → bs ≡ shown.bundles → AllZip (IsHeld faulty) bs hs → read ≡ shown_with shown hs → IsHeldAs (These faulty) shown read
-again_held faulty shown bs hs read same are is = (
-  ap (λ (x : CampaignBundle). x.alone) is,
-  subst (λ (x : CampaignBundle). AllZip (IsHeld faulty) shown.bundles x.bundles) (sym is) (subst (λ (xs : List Bundle). AllZip (IsHeld faulty) xs hs) same are),
+-- with these generals assumed faulty
+pub is_held_as : (faulty : List ℕ) (shown held : CampaignBundle) (alone : Bool) (bs hs : List Bundle)
+    → alone ≡ shown.alone → bs ≡ shown.bundles → AllZip (IsHeld faulty) bs hs → held ≡ shown_with alone hs → IsHeldAs (These faulty) shown held
+is_held_as faulty shown held alone bs hs same_form same_bundles are is = (
+  ap (λ (x : CampaignBundle). x.alone) is ∙ same_form,
+  subst (λ (x : CampaignBundle). AllZip (IsHeld faulty) shown.bundles x.bundles) (sym is) (subst (λ (xs : List Bundle). AllZip (IsHeld faulty) xs hs) same_bundles are),
 )
-
--- and they are few
-pub few_held : (faulty : List ℕ) (shown : CampaignBundle) (bs hs ss : List Bundle) → IsCampaign shown → bs ≡ shown.bundles → AllZip (IsHeld faulty) bs hs → ss ≡ hs → length ss < 256
-few_held faulty shown bs hs ss is same are same_held =
-    let few = few_shown shown.alone shown.bundles is in
-    let one : length bs ≡ length shown.bundles = ap (λ (xs : List Bundle). length xs) same in
-    let other : length ss ≡ length hs = ap (λ (xs : List Bundle). length xs) same_held in
-    omega (arith, few, one, other, as_many_held faulty bs hs are)

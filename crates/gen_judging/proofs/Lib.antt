@@ -1,6 +1,10 @@
 pub mod Accused
+pub mod AccusedHeld
 pub mod AccusedRuns
 pub mod AskedFaults
 pub mod Drawn
 pub mod Held
+pub mod HeldAgain
 pub mod Shown
+pub mod ToldFrom
+pub mod ToldHeld

@@ -5,4 +5,6 @@ pub mod AuditFacts
 pub mod Checking
 pub mod Drawing
 pub mod Holding
+pub mod JudgedInput
 pub mod Origins
+pub mod Told

@@ -1,19 +1,16 @@
 //! The job `evidence`: checks whether evidence holds.
-ghost use Rattle.std.specs.Prelude.{◌≡◌, IfOk, IfErr, IfSome};
+ghost use Rattle.std.specs.Prelude.{IfOk, IfErr};
 ghost use Rattle.gen_convict.specs.Evidence.{told_of};
 ghost use Rattle.gen_convict.specs.EvidenceReading.{IsWhole};
-ghost use Rattle.gen_ends.specs.Answering.{Answers};
 ghost use Rattle.gen_judging.specs.Asking.{IsCheckedIn, IsEvidenceFaultOf};
 ghost use Rattle.gen_judging.specs.Checking.{Tells};
-ghost use Rattle.gen_ends.specs.Ends.{IsTaken, KeepsUntilWhole};
 
 use gen_asked::{AskedRuns, Form};
 use gen_convict::{Evidence, check_evidence, read_evidence};
-use gen_ends::{JobEnd, JobFault, Output, deliver, read_all};
+use gen_ends::{JobFault, Output};
 use gen_json::print_evidence_json;
 use gen_net::Header;
 use std::alloc::{AllocError, Global};
-use std::io::{Read, Write};
 
 /// The output for evidence that holds.
 const HOLDS: &[u8] = b"evidence holds\n";
@@ -67,33 +64,4 @@ pub fn evidence(
         return Err(JobFault::OtherRun);
     }
     Ok(output_for(alloc, form, &header, &evidence)?)
-}
-
-/// Reads the bytes of evidence to their end, and writes in this form whether it holds, as text `evidence holds` or
-/// `evidence fails`, and LF. It writes nothing if they spell none, or evidence of another run than the one that is asked
-/// for. The end is negative if the evidence fails.
-///
-/// A fault of the input is looked for after the whole input was read, and nothing is written before the output is
-/// whole. If a read, a write or memory fails, the job ends with that fault.
-#[tactic(auto, using(gen_ends::proofs::Delivering::output_engine))]
-pub fn evidence_engine<R: Read, W: Write>(
-    alloc: Global,
-    form: Form,
-    asked: AskedRuns,
-    reader: &mut R,
-    writer: &mut W,
-) -> JobEnd
-    // What is written says whether the evidence that was read holds.
-    ensures answers { IfSome (R.remaining reader.old) (λ input.
-        Answers (IsCheckedIn form asked input) (IsEvidenceFaultOf asked input)
-        (W.contents writer.old) (W.contents writer.new) result) }
-    // What was read is within the limit.
-    ensures taken { IfSome (R.remaining reader.old) (λ input. IsTaken input result) }
-    // Nothing is written before the output is whole.
-    ensures late { KeepsUntilWhole (W.contents writer.old) (W.contents writer.new) result }
-{
-    match read_all(alloc, reader) {
-        Ok(input) => deliver(writer, evidence(alloc, form, asked, &input)),
-        Err(fault) => JobEnd::Failed(fault),
-    }
 }

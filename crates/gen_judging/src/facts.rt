@@ -1,9 +1,10 @@
 //! What the judgement on a campaign says, as facts.
 ghost use Rattle.std.specs.Prelude.{◌≡◌, ◌++◌, ◌<◌, IfOk, OnOk, length, map};
 ghost use Rattle.gen_convict.specs.Evidence.{told_of};
-ghost use Rattle.gen_judging.specs.AuditFacts.{campaign_facts, conviction_told, runs_facts};
+ghost use Rattle.gen_judging.specs.AuditFacts.{HeldFacts, campaign_facts, conviction_told, runs_facts};
 
 use crate::counting::shared_roots;
+use crate::judged::Judged;
 use gen_audit::{Bundle, Judgement};
 use gen_campaign::{CampaignBundle, CampaignVerdict, place_of};
 use gen_convict::{Claim, Evidence};
@@ -53,7 +54,7 @@ fn conviction_told(bundles: &[Bundle], evidence: &Evidence) -> Fact
 
 /// Returns the facts of the verdict on a campaign: those of the judgement on each run, in the order of the runs, those of
 /// the convictions across two runs, and those of the pairs of generals that have the same root.
-pub(crate) fn campaign_facts(
+fn campaign_facts(
     alloc: Global,
     campaign: &CampaignBundle,
     verdict: &CampaignVerdict,
@@ -74,4 +75,20 @@ pub(crate) fn campaign_facts(
         facts.push(equal_roots_fact(*pair))?;
     }
     Ok(facts)
+}
+
+impl Judged {
+    /// Returns the facts of the judgement on each run, of the convictions across two runs, and of the pairs of generals that
+    /// have the same root.
+    ///
+    /// # Errors
+    ///
+    /// `AllocError` if memory is refused.
+    #[tactic(auto, using(crate::proofs::ToldHeld::held_facts))]
+    pub fn facts(&self, alloc: Global) -> Result<Vec<Fact>, AllocError>
+        ensures { IfOk result (λ facts. HeldFacts self.now.asked self.now.input facts.items) }
+    {
+        let (campaign, verdict) = self.parts();
+        campaign_facts(alloc, campaign, verdict)
+    }
 }

@@ -1,19 +1,22 @@
 //! Bundles and campaigns as if other generals were assumed faulty.
 ghost use Rattle.std.specs.Prelude.{◌≡◌, ◌<◌, All, IfErr, IfOk, false, length};
+ghost use Rattle.std.specs.Arc.{arc_slice_items};
 ghost use Rattle.std.specs.List.{AllZip};
-ghost use Rattle.gen_campaign.specs.CampaignSpelling.{campaign_spelling};
 ghost use Rattle.gen_ends.specs.Failing.{campaign_failure};
+ghost use Rattle.gen_judging.specs.Asking.{IsHeldFault};
+ghost use Rattle.gen_judging.specs.Audit.{ByWorkers};
+ghost use Rattle.gen_judging.specs.JudgedInput.{ShowsAs, asked_with};
 ghost use Rattle.gen_judging.specs.Holding.{IsHeld, IsHeldAs, IsHoldFault, lack_fault, lacks};
 ghost use Rattle.gen_asked.specs.declared.faulty.Faulty.TheVariants.{These};
 
-use gen_asked::Faulty;
+use crate::run_ids::check_runs;
+use gen_asked::{Asked, Faulty};
 use gen_audit::{Bundle, BundleFault};
-use gen_campaign::{
-    CampaignBundle, CampaignFault, put_bundles, read_taken_campaign, several_front,
-};
+use gen_campaign::{CampaignBundle, CampaignFault, read_shared_campaign};
 use gen_ends::JobFault;
 use gen_types::{GeneralSet, ReadError};
-use std::alloc::{AllocError, Global};
+use std::alloc::Global;
+use std::sync::ArcSlice;
 
 /// Returns the fault of the run in this place, or of a bundle that stands alone, whose header lacks a general.
 fn lack_fault(alone: bool, place: usize) -> CampaignFault
@@ -55,23 +58,25 @@ fn hold_all(
     Ok(held)
 }
 
-/// Returns the bytes that show these bundles.
-fn spelled(alloc: Global, alone: bool, bundles: &[Bundle]) -> Result<Vec<u8>, AllocError>
-    requires { length bundles.now < 256 }
-    ensures { IfOk result (λ bytes. bytes.items
-        ≡ campaign_spelling (record { alone = alone; bundles = bundles.now })) }
+/// Returns what is shown, with these generals assumed faulty in each bundle. Header and exhibits stay. The walks are the
+/// best ones between the others, or none if two of them have no short one.
+fn held_with(
+    alloc: Global,
+    faulty: GeneralSet,
+    campaign: &CampaignBundle,
+) -> Result<CampaignBundle, JobFault>
+    ensures held { IfOk result (IsHeldAs (These faulty) campaign.now) }
+    ensures fault { IfErr result (IsHoldFault (These faulty) campaign.now) }
 {
-    let mut out = Vec::new(alloc);
-    if !alone {
-        out.extend_from_slice(&several_front(bundles.len() as u8))?;
-    }
-    put_bundles(alloc, &mut out, bundles)?;
-    Ok(out)
+    // Reading their number makes known that the generals ascend.
+    let _count = faulty.len();
+    let alone = campaign.is_alone();
+    let bundles = hold_all(alloc, faulty, alone, campaign.bundles())?;
+    Ok(CampaignBundle::of(alone, bundles))
 }
 
-/// Returns what is shown, with the generals that are asked for in place of the ones that each bundle lists. Header and
-/// exhibits stay. The walks are the best ones between the others, or none if two of them have no short one.
-pub(crate) fn held_as(
+/// Returns what is shown, with the generals that are asked for in place of the ones that each bundle lists.
+fn held_as(
     alloc: Global,
     faulty: Faulty,
     campaign: CampaignBundle,
@@ -79,19 +84,40 @@ pub(crate) fn held_as(
     ensures held { IfOk result (IsHeldAs faulty campaign) }
     ensures fault { IfErr result (IsHoldFault faulty campaign) }
 {
-    let set = match faulty {
-        Faulty::Listed => return Ok(campaign),
-        Faulty::These(set) => set,
-    };
-    // Reading their number makes known that the generals ascend.
-    let _count = set.len();
-    let alone = campaign.is_alone();
-    let bundles = hold_all(alloc, set, alone, campaign.bundles())?;
-    let bytes = spelled(alloc, alone, bundles.as_slice())?;
-    // The bundles are written and read again.
-    match read_taken_campaign(alloc, bytes) {
-        Ok(held) => Ok(held),
-        Err(ReadError::Memory) => Err(JobFault::Memory),
-        Err(ReadError::Fault(_)) => unreachable!(),
+    match faulty {
+        Faulty::Listed => Ok(campaign),
+        Faulty::These(set) => held_with(alloc, set, &campaign),
     }
+}
+
+/// Reads what an input shows of a campaign, whose runs must be the ones that are asked for, with the generals that are
+/// asked for assumed faulty. The bytes are not copied.
+#[tactic(auto, using(crate::proofs::AskedFaults::held_faults))]
+pub(crate) fn held_of(
+    alloc: Global,
+    asked: &Asked,
+    input: &ArcSlice<u8>,
+) -> Result<CampaignBundle, JobFault>
+    ensures shows { IfOk result (ShowsAs asked.now (arc_slice_items input.now)) }
+    ensures fault { IfErr result (ByWorkers 1 (IsHeldFault asked.now (arc_slice_items input.now))) }
+{
+    let campaign = read_shared_campaign(alloc, input)?;
+    check_runs(alloc, asked.runs, campaign.bundles())?;
+    held_as(alloc, asked.faulty, campaign)
+}
+
+/// Returns what is shown of an input, with these generals assumed faulty in place of those that were before.
+pub(crate) fn held_again(
+    alloc: Global,
+    asked: &Asked,
+    input: &ArcSlice<u8>,
+    faulty: GeneralSet,
+    campaign: &CampaignBundle,
+) -> Result<CampaignBundle, JobFault>
+    requires { ShowsAs asked.now (arc_slice_items input.now) campaign.now }
+    ensures shows { IfOk result (ShowsAs (asked_with asked.now faulty) (arc_slice_items input.now)) }
+    ensures held { IfOk result (IsHeldAs (These faulty) campaign.now) }
+    ensures fault { IfErr result (ByWorkers 1 (IsHeldFault (asked_with asked.now faulty) (arc_slice_items input.now))) }
+{
+    held_with(alloc, faulty, campaign)
 }

@@ -1,8 +1,8 @@
-//! The jobs that judge what a run left: audit, draw, accuse, evidence.
+//! A bundle or a campaign that is judged, what is told of it, and the job `evidence`.
 //!
-//! Each takes the bytes of an input, and returns the output that answers it, or its first fault. Three have a form that
-//! works in the caller's thread; `audit_in_place` tells what it found as rows of numbers too. The engine of a job reads
-//! the input to its end, and writes the output.
+//! `judge_by_workers` judges the bytes of a bundle or a campaign by workers, and `judge_in_place` in the caller's thread. Both return
+//! a `Judged`. Verdict, picture, evidence and facts are told of it, and `held` judges the same reports with other generals
+//! assumed faulty. `tell_by_workers` judges and tells in one call.
 #![tactic(auto)]
 
 mod accusing;
@@ -12,14 +12,14 @@ mod counting;
 mod drawing;
 mod facts;
 mod holding;
-mod in_place;
+mod judged;
 mod origins;
 mod run_ids;
+mod told;
 
-pub use accusing::{accuse, accuse_engine};
-pub use auditing::{audit, audit_engine, judgement_output};
-pub use checking::{evidence, evidence_engine};
+pub use auditing::judgement_output;
+pub use checking::evidence;
 pub use counting::{counted, has_few};
-pub use drawing::{draw, draw_engine};
-pub use in_place::{accuse_in_place, audit_in_place, draw_in_place};
+pub use judged::{Judged, judge_by_workers, judge_in_place};
 pub use origins::origin_in;
+pub use told::{Told, tell_by_workers};

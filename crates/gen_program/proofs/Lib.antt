@@ -4,3 +4,4 @@ pub mod Ended
 pub mod Headings
 pub mod Listed
 pub mod Names
+pub mod Verified

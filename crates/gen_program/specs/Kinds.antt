@@ -48,12 +48,16 @@ is_judged kinds.Bundle = true
 is_judged kinds.Campaign = true
 is_judged _ = false
 
--- whether a kind is a file that is shown: a bundle, a campaign, evidence or a header
+-- whether a kind is a file that is shown
 abbrev pub is_shown : InputKind → Bool
 is_shown kinds.Bundle = true
 is_shown kinds.Campaign = true
 is_shown kinds.Evidence = true
 is_shown kinds.Header = true
+is_shown kinds.Receipts = true
+is_shown kinds.System = true
+is_shown kinds.Admission = true
+is_shown kinds.Roots = true
 is_shown _ = false
 
 -- whether a kind has a header that can be planned: a bundle, a campaign, a header or its text

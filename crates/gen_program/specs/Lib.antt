@@ -5,3 +5,4 @@ pub mod Kinds
 pub mod Many
 pub mod Refusal
 pub mod Sources
+pub mod Verifying

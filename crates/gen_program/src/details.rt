@@ -169,7 +169,8 @@ impl Display for KindTold {
         let words = self.0.words();
         match self.0 {
             InputKind::Evidence => write!(f, "{words} does")?,
-            InputKind::Receipts => write!(f, "{words} do")?,
+            InputKind::Receipts | InputKind::Roots => write!(f, "{words} do")?,
+            InputKind::Admission => write!(f, "an {words} does")?,
             _ => write!(f, "a {words} does")?,
         }
         match self.0.command() {

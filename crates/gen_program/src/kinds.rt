@@ -11,7 +11,14 @@ fn is_shown(kind: InputKind) -> bool
 {
     matches!(
         kind,
-        InputKind::Bundle | InputKind::Campaign | InputKind::Evidence | InputKind::Header
+        InputKind::Bundle
+            | InputKind::Campaign
+            | InputKind::Evidence
+            | InputKind::Header
+            | InputKind::Receipts
+            | InputKind::System
+            | InputKind::Admission
+            | InputKind::Roots
     )
 }
 

@@ -20,6 +20,7 @@ mod reading;
 mod sources;
 mod systems;
 mod terminals;
+mod verifying;
 mod watching;
 
 pub use built::Built;

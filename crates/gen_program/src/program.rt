@@ -14,6 +14,7 @@ use crate::reading::{answer_files, join_files, read_file};
 use crate::sources::source_of;
 use crate::systems::finish_systems;
 use crate::terminals::Terminals;
+use crate::verifying::{SignedFiles, finish_signed};
 use crate::watching::WatchedWriter;
 use clap::error::ErrorKind;
 use gen_asked::{Job, Telling};
@@ -183,6 +184,18 @@ fn finish_several<R: Files + Terminals + AllocGlobal + Input + Print + Eprint>(
             }
             Err(failure) => fail_with(rt, &failure),
         },
+        Several::LmsVerify {
+            key,
+            text,
+            signature,
+        } => {
+            let files = SignedFiles {
+                key,
+                text,
+                signature,
+            };
+            finish_signed(rt, &files)
+        }
     }
 }
 

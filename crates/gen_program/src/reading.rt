@@ -58,14 +58,19 @@ impl<'a> Failure<'a> {
     fn within(fault: JobFault, file: &'a str, bytes: &[u8], own: InputKind) -> Failure<'a>
         ensures { result.fault ≡ fault }
     {
-        let detail = match input_kind(bytes) {
-            Some(kind) if kind != own => Detail::OtherKind { file, kind },
-            _ => Detail::Within { file },
-        };
         Failure {
             fault,
-            detail: Some(detail),
+            detail: Some(detail_within(file, bytes, Some(own))),
         }
+    }
+}
+
+/// Returns what is told of the fault of a file among several: of which kind it is, if it begins as one of another kind than its
+/// own, and else its name.
+pub(crate) fn detail_within<'a>(file: &'a str, bytes: &[u8], own: Option<InputKind>) -> Detail<'a> {
+    match input_kind(bytes) {
+        Some(kind) if Some(kind) != own => Detail::OtherKind { file, kind },
+        _ => Detail::Within { file },
     }
 }
 

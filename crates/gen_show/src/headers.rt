@@ -30,7 +30,7 @@ fn push_format(
 }
 
 /// Appends the lines of the numbers of a network.
-fn push_numbers(out: &mut String, net: &Net) -> Result<(), AllocError>
+pub fn push_numbers(out: &mut String, net: &Net) -> Result<(), AllocError>
     ensures { OnOk result (string_bytes out.new ≡ string_bytes out.old ++ number_lines net.now) }
 {
     let generals = net.generals();
@@ -46,7 +46,7 @@ fn push_numbers(out: &mut String, net: &Net) -> Result<(), AllocError>
 }
 
 /// Appends the lines of edges.
-fn push_edges(out: &mut String, edges: &[(GeneralNo, GeneralNo)]) -> Result<(), AllocError>
+pub fn push_edges(out: &mut String, edges: &[(GeneralNo, GeneralNo)]) -> Result<(), AllocError>
     ensures { OnOk result
         (string_bytes out.new ≡ string_bytes out.old ++ flat_map edge_line edges.now) }
 {

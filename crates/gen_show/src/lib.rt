@@ -17,4 +17,5 @@ pub mod laws;
 mod logs;
 mod showing;
 
-pub use showing::show;
+pub use headers::{push_edges, push_header, push_numbers};
+pub use showing::{faulty, push_fault, show};

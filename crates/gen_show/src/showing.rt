@@ -22,7 +22,7 @@ use std::alloc::{AllocError, Global};
 
 /// Appends the last line of what doesn't read.
 #[tactic(auto, unfolding(crate::specs::Showing::fault_line))]
-fn push_fault(out: &mut String, name: &str, at: usize) -> Result<(), AllocError>
+pub fn push_fault(out: &mut String, name: &str, at: usize) -> Result<(), AllocError>
     ensures { OnOk result (string_bytes out.new ≡ string_bytes out.old ++ fault_line name.now at) }
 {
     write!(out, "fault {name} byte {at}\n")
@@ -53,7 +53,7 @@ fn push_front(
 
 /// Returns the lines of what doesn't read: the header, if that reads, and the fault.
 #[tactic(auto, unfolding(crate::specs::Showing::faulty_lines))]
-fn faulty(
+pub fn faulty(
     alloc: Global,
     name: &str,
     marks: Marks,

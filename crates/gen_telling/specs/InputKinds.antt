@@ -24,6 +24,9 @@ kind_of bytes =
     else if begins_with (codes "SME1") bytes || begins_with (codes "SME2") bytes then Some kinds.Evidence
     else if begins_with (codes "SMR1") bytes || begins_with (codes "SMR2") bytes then Some kinds.Receipts
     else if begins_with (codes "SMF1") bytes then Some kinds.Frame
+    else if begins_with (codes "SMS1") bytes then Some kinds.System
+    else if begins_with (codes "SMA1") bytes then Some kinds.Admission
+    else if begins_with (codes "SMI1") bytes || begins_with (codes "SMI2") bytes then Some kinds.Roots
     else if begins_header bytes then Some kinds.Header
     else if begins_with (codes "generals ") bytes then Some kinds.ScenarioText
     else if begins_with (codes "campaign ") bytes then Some kinds.CampaignText
@@ -37,6 +40,9 @@ kind_words kinds.Evidence = codes "evidence"
 kind_words kinds.Receipts = codes "receipts"
 kind_words kinds.Frame = codes "frame"
 kind_words kinds.Header = codes "header"
+kind_words kinds.System = codes "system"
+kind_words kinds.Admission = codes "admission"
+kind_words kinds.Roots = codes "roots"
 kind_words kinds.ScenarioText = codes "scenario text"
 kind_words kinds.CampaignText = codes "campaign text"
 
@@ -48,6 +54,9 @@ kind_command kinds.Evidence = Some (codes "evidence")
 kind_command kinds.Receipts = Some (codes "receipts")
 kind_command kinds.Frame = None
 kind_command kinds.Header = Some (codes "show")
+kind_command kinds.System = Some (codes "show")
+kind_command kinds.Admission = Some (codes "show")
+kind_command kinds.Roots = Some (codes "show")
 kind_command kinds.ScenarioText = Some (codes "decide")
 kind_command kinds.CampaignText = Some (codes "campaign")
 

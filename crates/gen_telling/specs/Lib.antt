@@ -4,4 +4,5 @@ pub mod Naming
 pub mod PlanText
 pub mod Planning
 pub mod Showing
+pub mod ShownFile
 pub mod Telling

@@ -37,6 +37,9 @@ source_of (Some kinds.Header) = OfHeader
 source_of (Some kinds.Evidence) = OfText
 source_of (Some kinds.Receipts) = OfText
 source_of (Some kinds.Frame) = OfText
+source_of (Some kinds.System) = OfText
+source_of (Some kinds.Admission) = OfText
+source_of (Some kinds.Roots) = OfText
 source_of (Some kinds.ScenarioText) = OfText
 source_of (Some kinds.CampaignText) = OfText
 

@@ -1,8 +1,7 @@
 -- What the job show makes of its input, if runs are asked for.
 use Rattle.std.specs.Prelude.{ℕ, Bool, List, Option, Some, None}
-use Rattle.gen_file.specs.Kinds.{file_kind}
-use Rattle.gen_campaign.specs.FileRuns.{runs_as}
 use Rattle.gen_asked.specs.AskedRuns.{AreAsked}
+use Rattle.gen_telling.specs.ShownFile.{shown_kind, shown_runs}
 use Rattle.gen_telling.specs.Telling.{TellsFile}
 use Rattle.gen_asked.specs.declared.forms.Form.{Form}
 use Rattle.gen_asked.specs.declared.asked_runs.AskedRuns.{AskedRuns}
@@ -22,7 +21,7 @@ AreAskedOf asked (Some ids) = AreAsked asked ids
 
 -- the file is of the runs that are asked for
 abbrev pub IsFileOf : AskedRuns → List ℕ → Type 0
-IsFileOf asked input = AreAskedOf asked (runs_as (file_kind input) input)
+IsFileOf asked input = AreAskedOf asked (shown_runs (shown_kind input) input)
 
 -- the text says in a form, line by line, what the file is, which is of the runs that are asked for
 abbrev pub IsShownIn : Form → AskedRuns → List ℕ → List ℕ → Bool → Type 0

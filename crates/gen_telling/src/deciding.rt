@@ -1,11 +1,9 @@
 //! The job `decide`: writes what each general decides.
-ghost use Rattle.std.specs.Prelude.{◌≡◌, IfOk, IfErr, IfSome, OnOk};
-ghost use Rattle.gen_ends.specs.Answering.{Answers};
+ghost use Rattle.std.specs.Prelude.{◌≡◌, IfOk, IfErr, OnOk};
 ghost use Rattle.gen_telling.specs.Decide.{DecidedFacts, IsDecidedIn, IsDecideFault, told_facts, told_text};
-ghost use Rattle.gen_ends.specs.Ends.{IsTaken, KeepsUntilWhole};
 
 use gen_asked::Form;
-use gen_ends::{JobEnd, JobFault, Output, deliver, read_all};
+use gen_ends::{JobFault, Output};
 use gen_facts::{Fact, decision_facts};
 use gen_json::print_decisions_json;
 use gen_report::print_decisions;
@@ -14,7 +12,6 @@ use gen_text::{ScenarioText, read_scenario};
 use gen_types::GeneralSet;
 use gen_world::{decide_world, run_plain};
 use std::alloc::{AllocError, Global};
-use std::io::{Read, Write};
 
 /// Returns the decisions in the run of a scenario, in this form. `facts` then holds what they say.
 fn told_in(
@@ -78,34 +75,4 @@ pub fn decide(
         text,
         negative: false,
     })
-}
-
-/// Reads a scenario text to its end, and writes in this form what each general without a script decides; nothing if the
-/// text has a fault.
-///
-/// A fault of the input is looked for after the whole input was read, and nothing is written before the output is
-/// whole. If a read, a write or memory fails, the job ends with that fault.
-#[tactic(auto, using(gen_ends::proofs::Delivering::output_engine))]
-pub fn decide_engine<R: Read, W: Write>(
-    alloc: Global,
-    form: Form,
-    reader: &mut R,
-    writer: &mut W,
-) -> JobEnd
-    // What is written answers what was read.
-    ensures answers { IfSome (R.remaining reader.old) (λ input.
-        Answers (IsDecidedIn form input) (IsDecideFault input)
-        (W.contents writer.old) (W.contents writer.new) result) }
-    // What was read is within the limit.
-    ensures taken { IfSome (R.remaining reader.old) (λ input. IsTaken input result) }
-    // Nothing is written before the output is whole.
-    ensures late { KeepsUntilWhole (W.contents writer.old) (W.contents writer.new) result }
-{
-    match read_all(alloc, reader) {
-        Ok(input) => {
-            let mut facts = Vec::new(alloc);
-            deliver(writer, decide(alloc, form, &input, &mut facts))
-        }
-        Err(fault) => JobEnd::Failed(fault),
-    }
 }

@@ -19,6 +19,12 @@ pub enum InputKind {
     Frame,
     /// A header: its first byte is 1 or 2.
     Header,
+    /// A system: it begins with `SMS1`.
+    System,
+    /// An admission: it begins with `SMA1`.
+    Admission,
+    /// A file of roots: it begins with `SMI1` or `SMI2`.
+    Roots,
     /// The text of a scenario, or of a header: it begins with `generals` and a space.
     ScenarioText,
     /// The text of a campaign: it begins with `campaign` and a space.
@@ -47,6 +53,12 @@ pub fn input_kind(first: &[u8]) -> Option<InputKind>
         Some(InputKind::Receipts)
     } else if begins_with(b"SMF1", first) {
         Some(InputKind::Frame)
+    } else if begins_with(b"SMS1", first) {
+        Some(InputKind::System)
+    } else if begins_with(b"SMA1", first) {
+        Some(InputKind::Admission)
+    } else if begins_with(b"SMI1", first) || begins_with(b"SMI2", first) {
+        Some(InputKind::Roots)
     } else if begins_header(first) {
         Some(InputKind::Header)
     } else if begins_with(b"generals ", first) {
@@ -70,6 +82,9 @@ impl InputKind {
             InputKind::Receipts => "receipts",
             InputKind::Frame => "frame",
             InputKind::Header => "header",
+            InputKind::System => "system",
+            InputKind::Admission => "admission",
+            InputKind::Roots => "roots",
             InputKind::ScenarioText => "scenario text",
             InputKind::CampaignText => "campaign text",
         }
@@ -84,7 +99,9 @@ impl InputKind {
             InputKind::Evidence => Some("evidence"),
             InputKind::Receipts => Some("receipts"),
             InputKind::Frame => None,
-            InputKind::Header => Some("show"),
+            InputKind::Header | InputKind::System | InputKind::Admission | InputKind::Roots => Some(
+                "show",
+            ),
             InputKind::ScenarioText => Some("decide"),
             InputKind::CampaignText => Some("campaign"),
         }

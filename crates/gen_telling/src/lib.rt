@@ -12,9 +12,10 @@ mod naming;
 mod plan_lines;
 mod planning;
 mod showing;
+mod shown_file;
 mod telling;
 
-pub use deciding::{decide, decide_engine};
+pub use deciding::decide;
 pub use fault_json::job_fault_json;
 pub use input_kinds::{InputKind, input_kind};
 pub use naming::name_file;

@@ -40,6 +40,9 @@ fn source_of(input: &[u8]) -> PlanSource
             InputKind::Evidence
             | InputKind::Receipts
             | InputKind::Frame
+            | InputKind::System
+            | InputKind::Admission
+            | InputKind::Roots
             | InputKind::ScenarioText
             | InputKind::CampaignText,
         )

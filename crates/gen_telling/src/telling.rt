@@ -2,6 +2,7 @@
 ghost use Rattle.std.specs.Prelude.{IfErr, IfOk};
 ghost use Rattle.gen_telling.specs.Telling.{IsMemory, IsTold, TellsFile};
 
+use crate::shown_file::{shown_json, shown_kind, shown_text};
 use gen_asked::{Form, Telling};
 use gen_ends::{JobFault, Output};
 use std::alloc::{AllocError, Global};
@@ -10,9 +11,10 @@ use std::alloc::{AllocError, Global};
 pub(crate) fn tell_file(alloc: Global, form: Form, input: &[u8]) -> Result<Output, AllocError>
     ensures { IfOk result (λ o. TellsFile form input.now o.text.items o.negative) }
 {
+    let kind = shown_kind(input);
     let shown = match form {
-        Form::Text => gen_show::show(alloc, input)?,
-        Form::Json => gen_json_files::show_json(alloc, input)?,
+        Form::Text => shown_text(alloc, kind, input)?,
+        Form::Json => shown_json(alloc, kind, input)?,
     };
     let negative = !shown.whole;
     Ok(Output {
@@ -21,8 +23,7 @@ pub(crate) fn tell_file(alloc: Global, form: Form, input: &[u8]) -> Result<Outpu
     })
 }
 
-/// Returns what is told of an input. The output says no if the file is no whole bundle, campaign, evidence or header, and if
-/// the name is none.
+/// Returns what is told of an input. The output says no if the file is no whole one of its kind, and if the name is none.
 ///
 /// # Errors
 ///

@@ -116,6 +116,10 @@ first_file = record (word_named (codes "file")) { required = true }
 abbrev pub log : Rule
 log = record (word_named (codes "log")) { required = true }
 
+-- a file that has to stand there
+abbrev pub needed_file : Text → Rule
+needed_file name = record (word_named name) { required = true }
+
 -- logs, or files of roots, a word for each, with its general and its file
 abbrev pub logs : Rule
 logs = record (word_named (codes "log")) { action = Some Append }
@@ -207,6 +211,11 @@ admission =
 abbrev pub admit : App
 admit = with_rule (with_rule (with_rule (new_app (codes "admit")) run_number) print_id) file
 
+abbrev pub lms_verify : App
+lms_verify =
+    with_rule (with_rule (with_rule (new_app (codes "lms-verify")) (needed_file (codes "file")))
+    (needed_file (codes "text"))) (needed_file (codes "signature"))
+
 abbrev pub explain : App
 explain = with_rule (new_app (codes "explain")) name
 
@@ -288,8 +297,12 @@ with_admission = with_subcommand with_system admission.top
 abbrev pub with_admit : App
 with_admit = with_subcommand with_admission admit.top
 
+-- the command line with the command that verifies a signature, too
+abbrev pub with_lms_verify : App
+with_lms_verify = with_subcommand with_admit lms_verify.top
+
 abbrev pub with_explain : App
-with_explain = with_subcommand with_admit explain.top
+with_explain = with_subcommand with_lms_verify explain.top
 
 abbrev pub tool : App
 tool = with_subcommand with_explain words.top

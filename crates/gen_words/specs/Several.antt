@@ -7,7 +7,7 @@ use Rattle.gen_asked.specs.Faulty.{set_named}
 use Rattle.gen_words.specs.CommandLine.{tool}
 use Rattle.gen_words.specs.Jobs.{number_between}
 use Rattle.gen_words.specs.declared.several.Several.{Several}
-use Rattle.gen_words.specs.declared.several.Several.TheVariants.{Bundle, Answer}
+use Rattle.gen_words.specs.declared.several.Several.TheVariants.{Bundle, Answer, LmsVerify}
 use Rattle.gen_words.specs.declared.words.WordsFault.{WordsFault}
 use Rattle.gen_words.specs.declared.words.WordsFault.TheVariants.{Memory, NoCommand, BadFaulty, BadLog, TwoStandard}
 
@@ -74,16 +74,27 @@ pub record SaysAnswer (rows : List Row) (evidence log : Text) : Type 0 where
   pub second : first_of (codes "log") rows ≡ Some log
   pub once : nat_le (standards (evidence ∷ log ∷ [])) 1 ≡ true
 
+-- the arguments of `lms-verify` say this
+pub record SaysVerify (rows : List Row) (key text signature : Text) : Type 0 where
+  pub first : first_of (codes "file") rows ≡ Some key
+  pub second : first_of (codes "text") rows ≡ Some text
+  pub third : first_of (codes "signature") rows ≡ Some signature
+  pub once : nat_le (standards (key ∷ text ∷ signature ∷ [])) 1 ≡ true
+
 -- a command with these arguments says this
 abbrev pub IsSeveral : Text × List Row → Several → Type 0
 IsSeveral p (Bundle faulty header generals logs) =
     (p.0 ≡ codes "bundle") × SaysBundle p.1 faulty header.now generals.items (map (λ l. l.now) logs.items)
 IsSeveral p (Answer evidence log) =
     (p.0 ≡ codes "answer") × SaysAnswer p.1 evidence.now log.now
+IsSeveral p (LmsVerify key text signature) =
+    (p.0 ≡ codes "lms-verify") × SaysVerify p.1 key.now text.now signature.now
 
 -- whether a command has several files
 abbrev pub has_several : Text → Bool
-has_several name = if bytes_eq name (codes "bundle") then true else bytes_eq name (codes "answer")
+has_several name =
+    if bytes_eq name (codes "bundle") then true
+    else if bytes_eq name (codes "answer") then true else bytes_eq name (codes "lms-verify")
 
 -- the arguments of `bundle` have this fault
 abbrev pub IsBundleFault : List Row → WordsFault → Type 0
@@ -106,10 +117,23 @@ IsAnswerFault rows TwoStandard =
     × (first_of (codes "log") rows ≡ Some log) × (nat_le (standards (evidence ∷ log ∷ [])) 1 ≡ false)
 IsAnswerFault rows _ = ⊥
 
+-- the arguments of `lms-verify` have this fault
+abbrev pub IsVerifyFault : List Row → WordsFault → Type 0
+IsVerifyFault rows NoCommand =
+    (first_of (codes "file") rows ≡ None)
+    ⊎ ((first_of (codes "text") rows ≡ None) ⊎ (first_of (codes "signature") rows ≡ None))
+IsVerifyFault rows TwoStandard =
+    (key : Text) × (text : Text) × (signature : Text) × (first_of (codes "file") rows ≡ Some key)
+    × (first_of (codes "text") rows ≡ Some text) × (first_of (codes "signature") rows ≡ Some signature)
+    × (nat_le (standards (key ∷ text ∷ signature ∷ [])) 1 ≡ false)
+IsVerifyFault rows _ = ⊥
+
 -- a command with these arguments has this fault
 abbrev pub IsSeveralFault : Text × List Row → WordsFault → Type 0
 IsSeveralFault p fault =
-    ((p.0 ≡ codes "bundle") × IsBundleFault p.1 fault) ⊎ ((p.0 ≡ codes "answer") × IsAnswerFault p.1 fault)
+    ((p.0 ≡ codes "bundle") × IsBundleFault p.1 fault)
+    ⊎ (((p.0 ≡ codes "answer") × IsAnswerFault p.1 fault)
+    ⊎ ((p.0 ≡ codes "lms-verify") × IsVerifyFault p.1 fault))
 
 -- a command with these arguments says this, or it has one file
 abbrev pub IsSaid : Text × List Row → Option Several → Type 0

@@ -33,7 +33,7 @@ Exit status:
   1  done: a verdict of audit or judge is a no, evidence fails, or there is no evidence against the general; with
      --strict also: a verdict is 'explained', or two roots are equal; of receipt, no log of the general shows its
      decision; of receipts, no order is shown, or several are; of show, the file doesn't read whole; of plan, the plan
-     fails; of explain, there is no such name
+     fails; of lms-verify, the signature fails; of explain, there is no such name
   2  the words ask for nothing that there is, or bytes would go to a terminal
   3  the input has a fault, which standard error names; 'fault R1' says that it is of another run
   4  memory or a thread was refused
@@ -314,7 +314,7 @@ fn with_showing<'a>(alloc: Global, tool: CommandBuilder<'a>) -> CommandBuilder<'
         .arg(flag_named(alloc, "json", ONE_OBJECT))
         .arg(file_argument(alloc));
     let about =
-        "Reads a bundle, a campaign, evidence or a header, and prints what it says, a line for each fact";
+        "Reads a file of any format but a log, a frame or a text, and prints what it says, a line for each fact";
     let show = with_asked(alloc, CommandBuilder::new(alloc, "show", about)).arg(flag_named(
         alloc,
         "json",
@@ -446,10 +446,39 @@ fn with_systems<'a>(alloc: Global, tool: CommandBuilder<'a>) -> CommandBuilder<'
         .subcommand(admit)
 }
 
+/// Returns an argument that is the word for a file, and has to stand there.
+fn needed_file<'a>(alloc: Global, name: &'a str, value: &'a str, help: &'a str) -> Arg<'a>
+    ensures rule { rule_of result ≡ lines.needed_file name.entry.now }
+    ensures local { result.global ≡ false }
+{
+    word_named(alloc, name, value, help).required(true)
+}
+
+/// Returns the command line with the command that verifies a signature of RFC 8554: `lms-verify`.
+fn with_signatures<'a>(alloc: Global, tool: CommandBuilder<'a>) -> CommandBuilder<'a>
+    ensures kept { result.refused ≡ false → tool.entry.refused ≡ false }
+    ensures app { result.refused ≡ false → app_of tool.entry.command ≡ lines.with_admit
+        → app_of result.command ≡ lines.with_lms_verify }
+{
+    let about =
+        "Reads a public key of RFC 8554, a text and a signature, each from its file, and prints whether it verifies";
+    let key = "The file of the public key: the 56 bytes of a tree of LMS";
+    let verify = CommandBuilder::new(alloc, "lms-verify", about)
+        .arg(needed_file(alloc, "file", "KEY", key))
+        .arg(needed_file(
+            alloc,
+            "text",
+            "TEXT",
+            "The file of the text, which may be any bytes",
+        ))
+        .arg(needed_file(alloc, "signature", "SIGNATURE", "The file of the signature"));
+    tool.subcommand(verify)
+}
+
 /// Returns the command line with the commands that tell what a text means: `explain` and `words`.
 fn with_telling<'a>(alloc: Global, tool: CommandBuilder<'a>) -> CommandBuilder<'a>
     ensures kept { result.refused ≡ false → tool.entry.refused ≡ false }
-    ensures app { result.refused ≡ false → app_of tool.entry.command ≡ lines.with_admit
+    ensures app { result.refused ≡ false → app_of tool.entry.command ≡ lines.with_lms_verify
         → app_of result.command ≡ lines.tool }
 {
     let about = "Prints what a name means that stands in an answer, or all names; reads no input";
@@ -465,7 +494,8 @@ fn with_telling<'a>(alloc: Global, tool: CommandBuilder<'a>) -> CommandBuilder<'
 
 /// Returns the command line of the program, with all its commands: those that read a scenario or a campaign, those that
 /// judge a bundle, those that show what evidence, a log, receipts or a file says, those that prepare a run or a dispute,
-/// those of identities and systems, and those that tell what a text means. One of them is required. It fails only if memory is refused.
+/// those of identities and systems, the one that verifies a signature of RFC 8554, and those that tell what a text means. One
+/// of them is required. It fails only if memory is refused.
 pub fn tool_command<'a>(alloc: Global) -> Result<Command<'a>, AllocError>
     ensures { IfOk result (λ c. app_of c ≡ lines.tool) }
 {
@@ -479,5 +509,5 @@ pub fn tool_command<'a>(alloc: Global) -> Result<Command<'a>, AllocError>
     let tool = with_bundles(alloc, tool);
     let tool = with_showing(alloc, tool);
     let tool = with_systems(alloc, with_preparing(alloc, tool));
-    with_telling(alloc, tool).finish()
+    with_telling(alloc, with_signatures(alloc, tool)).finish()
 }

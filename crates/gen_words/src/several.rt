@@ -1,7 +1,8 @@
-//! The words of the commands that have several files: `bundle` with a header and logs, `answer` with evidence and a log.
+//! The words of the commands that have several files: `bundle` with a header and logs, `answer` with evidence and a log, and
+//! `lms-verify` with a public key, a text and a signature.
 ghost use Rattle.std.specs.Prelude.{◌≡◌, ◌∷◌, codes, IfErr, IfOk, MatchOption, Some, None, map, nat_le, option_map};
 ghost use Rattle.clap.specs.Words.{first_of, found_of, rows_of};
-ghost use Rattle.gen_words.specs.Several.{AreNamed, AsksSeveral, IsAnswerFault, IsBundleFault, IsSeveral, IsSeveralFaultOf, NamesNone, file_named, general_named, log_words, standards, words_of};
+ghost use Rattle.gen_words.specs.Several.{AreNamed, AsksSeveral, IsAnswerFault, IsBundleFault, IsSeveral, IsSeveralFaultOf, IsVerifyFault, NamesNone, file_named, general_named, log_words, standards, words_of};
 
 use crate::words::{WordsFault, general_of, matches_of};
 use clap::ArgMatches;
@@ -32,6 +33,15 @@ pub enum Several<'a> {
         evidence: &'a str,
         /// The word for the file of the log.
         log: &'a str,
+    },
+    /// Verifies a signature of RFC 8554.
+    LmsVerify {
+        /// The word for the file of the public key.
+        key: &'a str,
+        /// The word for the file of the text.
+        text: &'a str,
+        /// The word for the file of the signature.
+        signature: &'a str,
     },
 }
 
@@ -162,6 +172,28 @@ fn answer_said<'a>(inner: &ArgMatches<'a>) -> Result<Several<'a>, WordsFault>
     Ok(Several::Answer { evidence, log })
 }
 
+/// Returns what the arguments of the command `lms-verify` say.
+fn verify_said<'a>(inner: &ArgMatches<'a>) -> Result<Several<'a>, WordsFault>
+    ensures said { IfOk result (λ s. IsSeveral (codes "lms-verify", rows_of (found_of inner.now)) s) }
+    ensures fault { IfErr result (IsVerifyFault (rows_of (found_of inner.now))) }
+{
+    let (Some(key), Some(text), Some(signature)) = (
+        text_of(inner, "file"),
+        text_of(inner, "text"),
+        text_of(inner, "signature"),
+    ) else {
+        return Err(WordsFault::NoCommand);
+    };
+    if !read_once(key, &[text, signature]) {
+        return Err(WordsFault::TwoStandard);
+    }
+    Ok(Several::LmsVerify {
+        key,
+        text,
+        signature,
+    })
+}
+
 /// Returns what words ask for that name several files; the first word is the program's name. None if their command has
 /// one file, or if they name no command.
 ///
@@ -189,6 +221,7 @@ pub fn read_several<'a>(
     match name {
         "bundle" => Ok(Some(bundle_said(alloc, inner)?)),
         "answer" => Ok(Some(answer_said(inner)?)),
+        "lms-verify" => Ok(Some(verify_said(inner)?)),
         _ => Ok(None),
     }
 }

@@ -35,6 +35,7 @@ mod signing;
 mod signing_chains;
 mod signing_keys;
 mod signing_logs;
+mod standard;
 pub mod texts;
 mod values;
 mod values_headers;
@@ -54,6 +55,7 @@ pub fn tell(alloc: Global, call: &str, row: Row<'_>, answer: &mut Answer) -> Res
     Ok(
         values::tell(alloc, call, row, answer)?
             || signing::tell(alloc, call, row, answer)?
+            || standard::tell(alloc, call, row, answer)?
             || judging::tell(alloc, call, row, answer)?
             || preparing::tell(alloc, call, row, answer)?
             || frames::tell(alloc, call, row, answer)?

@@ -24,6 +24,7 @@ pub(crate) fn tell<R: AllocGlobal + Threads + Wait + Sync>(
         "command" => tell_command(rt, Form::Engine, row, answer)?,
         "over_bytes" => tell_command(rt, Form::Bytes, row, answer)?,
         "in_place" => tell_command(rt, Form::InPlace, row, answer)?,
+        "judged_again" => tell_command(rt, Form::Again, row, answer)?,
         "lost" => tell_command(rt, Form::Lost, row, answer)?,
         _ => return Ok(false),
     }
@@ -76,6 +77,7 @@ fn command_of(several: &Several<'_>) -> &'static str {
     match several {
         Several::Bundle { .. } => "bundle",
         Several::Answer { .. } => "answer",
+        Several::LmsVerify { .. } => "lms-verify",
     }
 }
 

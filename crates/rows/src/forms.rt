@@ -1,12 +1,9 @@
 //! The forms of jobs: over a reader and a writer, over bytes, in the thread that calls, and over a writer that fails.
 ghost use Rattle.gen_asked.specs.Ranges.{IsInRange};
 
-use gen_asked::Job;
-use gen_audit::WorkerCount;
-use gen_jobs::{
-    JobEnd, JobFault, Output, accuse_engine, answer, answer_in_place, audit_engine, decide_engine,
-    deliver, do_job, draw_engine, evidence_engine, judge_engine,
-};
+use gen_asked::{Asked, Faulty, Job};
+use gen_jobs::{JobEnd, JobFault, Output, answer, answer_in_place, deliver, do_job};
+use gen_judging::{Told, judge_by_workers};
 use std::alloc::Global;
 use std::io::{self, ErrorKind, Write};
 use std::sync::Wait;
@@ -17,10 +14,12 @@ use std::thread::Threads;
 pub(crate) enum Form {
     /// By the call that does any job, over a reader and a writer.
     Engine,
-    /// By its engine, or by the call over bytes.
+    /// By the call over bytes.
     Bytes,
     /// By the call over bytes that starts no thread, if the job needs none.
     InPlace,
+    /// Of what was judged before with its own generals assumed faulty.
+    Again,
     /// By the call that does any job, over a writer that takes all bytes and loses them.
     Lost,
 }
@@ -68,78 +67,36 @@ fn answered_in_place<R: Threads + Wait + Sync>(
     }
 }
 
-/// Does `judge` or `audit` by its engine, and any other job by the call over bytes.
-fn judged<R: Threads + Wait + Sync>(
+/// Returns what the job tells of bytes that its workers judge with their own generals assumed faulty, and that are then
+/// judged with those that the job asks for. A job that asks for none, or judges no bytes, is answered in place.
+fn answered_again<R: Threads + Wait + Sync>(
     rt: &R,
     alloc: Global,
     job: Job,
     input: &[u8],
-    written: &mut Vec<u8>,
-) -> JobEnd
+) -> Result<Output, JobFault>
     requires { IsInRange job }
 {
-    let mut reader = input;
-    match job {
-        Job::Judge {
-            capacity,
-            workers,
-            strict,
-            form,
-        } => judge_engine(
-            rt,
-            alloc,
-            capacity,
-            workers,
-            form,
-            strict,
-            None,
-            &mut reader,
-            written,
-        ),
+    let (workers, asked, told) = match job {
         Job::Audit {
             workers,
             asked,
             strict,
             form,
-        } => audit_engine(
-            rt,
-            alloc,
-            workers,
-            &asked,
-            form,
-            strict,
-            None,
-            &mut reader,
-            written,
-        ),
-        _ => deliver(written, answered(rt, alloc, job, input)),
-    }
-}
-
-/// Does a job by its engine, `accuse` with three workers. `run`, `campaign` and jobs without an engine are done by the
-/// call over bytes.
-fn over_bytes<R: Threads + Wait + Sync>(
-    rt: &R,
-    alloc: Global,
-    job: Job,
-    input: &[u8],
-    written: &mut Vec<u8>,
-) -> JobEnd
-    requires { IsInRange job }
-{
-    let mut reader = input;
-    match job {
-        Job::Decide { form } => decide_engine(alloc, form, &mut reader, written),
-        Job::Draw { workers, asked } => {
-            draw_engine(rt, alloc, workers, &asked, &mut reader, written)
-        }
-        Job::Accuse { general, asked } => {
-            let three = WorkerCount::new(3).unwrap_or(WorkerCount::one());
-            accuse_engine(rt, alloc, three, asked, general, &mut reader, written)
-        }
-        Job::Evidence { asked, form } => evidence_engine(alloc, form, asked, &mut reader, written),
-        _ => judged(rt, alloc, job, input, written),
-    }
+        } => (workers, asked, Told::Verdict { strict, form }),
+        Job::Draw { workers, asked } => (workers, asked, Told::Picture),
+        _ => return answered_in_place(rt, alloc, job, input),
+    };
+    let Faulty::These(faulty) = asked.faulty else {
+        return answered_in_place(rt, alloc, job, input);
+    };
+    let listed = Asked {
+        runs: asked.runs,
+        faulty: Faulty::Listed,
+    };
+    let input = Vec::from_slice(alloc, input)?;
+    let held = judge_by_workers(rt, alloc, workers, &listed, input)?.held(alloc, faulty)?;
+    Ok(held.tell(alloc, told, None)?)
 }
 
 /// Returns how a job ends in this form, and what it writes.
@@ -156,8 +113,9 @@ pub(crate) fn done<R: Threads + Wait + Sync>(
     let mut written = Vec::new(alloc);
     let end = match form {
         Form::Engine => do_job(rt, alloc, job, None, &mut reader, &mut written),
-        Form::Bytes => over_bytes(rt, alloc, job, input, &mut written),
+        Form::Bytes => deliver(&mut written, answered(rt, alloc, job, input)),
         Form::InPlace => deliver(&mut written, answered_in_place(rt, alloc, job, input)),
+        Form::Again => deliver(&mut written, answered_again(rt, alloc, job, input)),
         Form::Lost => do_job(rt, alloc, job, None, &mut reader, &mut Lossy),
     };
     (end, written)

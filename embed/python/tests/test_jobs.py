@@ -186,6 +186,13 @@ class Jobs(unittest.TestCase):
         self.assertEqual(ended(vamuretu.refute, found, b""), "fault L1")
         self.assertEqual(ended(vamuretu.refute, b"", b""), "fault V1")
 
+    def test_signatures(self):
+        key, text, signature = ((EXAMPLES / "lms" / name).read_bytes() for name in ("key", "text", "signature"))
+        self.assertEqual(vamuretu.lms_verify(key, text, signature), (True, "signature verifies\n"))
+        self.assertEqual(vamuretu.lms_verify(key, text + b"x", signature), (False, "signature fails W5\n"))
+        self.assertEqual(vamuretu.lms_verify(key, text, b""), (False, "signature fails W1\n"))
+        self.assertEqual(ended(vamuretu.lms_verify, b"", text, signature), "fault D1")
+
     def test_across_runs(self):
         front = ["generals 2", "edge 0 1"]
         behind = ["diameter 1", "orders 2", "choice 0", "order 1", f"seed {'0' * 64}", "slot 0"]

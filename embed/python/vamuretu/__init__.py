@@ -11,7 +11,8 @@ from ._faults import EqualRoots, InputFault, LibraryMissing, Misuse, Nobody, Nod
 from ._faults import OtherSystem, StateFault, UsedSet
 from ._headers import Header, header, read_header
 from ._jobs import Evidence, accuse, audit, audit_json, decide, decide_json, draw, evidence, evidence_json, explain
-from ._jobs import plan, receipt, receipts, receipts_json, refute, run_ids, show, show_json, words
+from ._jobs import lms_verify, plan, receipt, receipts, receipts_json, refute, run_ids, show, show_json, words
+from ._judged import Judged, judged
 from ._kept import KeptState
 from ._libraries import use_libraries, version
 from ._nodes import FrameHead, Keys, Node, bundle, frame_head, root, shown
@@ -48,6 +49,7 @@ __all__ = [
     "FrameHead",
     "Header",
     "InputFault",
+    "Judged",
     "Judgement",
     "KeptState",
     "Keys",
@@ -91,6 +93,8 @@ __all__ = [
     "frame_head",
     "header",
     "identity",
+    "judged",
+    "lms_verify",
     "next_run",
     "plan",
     "read_header",

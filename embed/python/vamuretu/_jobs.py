@@ -17,6 +17,8 @@ YES, NO, MISUSE, FAULT, MEMORY = range(5)
 NOBODY, OTHER_RUN = 6, 7
 # The forms of an answer.
 TEXT, JSON = 0, 1
+# The form of what was judged alone.
+PICTURE = 2
 # The line of an admission of another system than the one that is expected.
 OTHER_SYSTEM = "fault A11"
 RUNS_MOST = 4
@@ -46,7 +48,7 @@ class Evidence:
     holds: bool
 
 
-def _checked(job: str, status: int, text: bytes, facts: List[Fact]) -> Tuple[bool, bytes, List[Fact]]:
+def checked(job: str, status: int, text: bytes, facts: List[Fact]) -> Tuple[bool, bytes, List[Fact]]:
     """Whether the answer of a job is a no, its text, and its facts."""
     if status == FAULT:
         raise InputFault(text.decode("ascii"))
@@ -65,7 +67,7 @@ def _checked(job: str, status: int, text: bytes, facts: List[Fact]) -> Tuple[boo
 def answered(job: str, *words: Any) -> Tuple[bool, bytes, List[Fact]]:
     """The answer of a job on words: whether it is a no, its text, and its facts."""
     function = getattr(library(JOBS), f"sm_{job}")
-    return _checked(job, *held(JOBS, lambda answer: int(function(*words, answer))))
+    return checked(job, *held(JOBS, lambda answer: int(function(*words, answer))))
 
 
 def _made(job: str, given: Bytes, *behind: Any, general: Tuple[int, ...] = ()) -> Tuple[bool, bytes]:
@@ -246,9 +248,10 @@ def run_ids(given: Bytes) -> Tuple[str, ...]:
 
 
 def show(given: Bytes, *, runs: Runs = None, admission: Admission = None, system: System = None) -> Tuple[bool, str]:
-    """Whether a file is a whole bundle, campaign, evidence or header, and what it is, as `sm_tool show` writes it.
+    """Whether a file is a whole one of its kind, and what it is, as `sm_tool show` writes it: a bundle, a campaign, evidence,
+    a header, receipts, a system, an admission or roots.
 
-    What is expected is as of `audit`. With it a file that is not whole is OtherRun too, as nothing says of which run it is.
+    What is expected is as of `audit`. With it a file that is not whole is OtherRun too, and so is one of no run.
     """
     is_no, text = _made("show", given, Expected(runs, admission, system).options())
     return not is_no, text.decode("ascii")
@@ -284,3 +287,14 @@ def plan(given: Bytes) -> Tuple[bool, str]:
     """
     is_no, text = _made("plan", given)
     return not is_no, text.decode("ascii")
+
+
+def lms_verify(key: Bytes, text: Bytes, signature: Bytes) -> Tuple[bool, str]:
+    """Whether a signature of a text verifies under a public key of RFC 8554, and the line on it, as `sm_tool lms-verify`
+    writes it. InputFault if the key is no public key of a tree of LMS over keys of LM-OTS with w = 4.
+
+    A leaf of a tree signs one text, and the call does not know what the leaf signed before.
+    """
+    parts = [as_bytes(it) for it in (key, text, signature)]
+    is_no, line, _ = answered("lms_verify", *(word for part in parts for word in (part, len(part))))
+    return not is_no, line.decode("ascii")

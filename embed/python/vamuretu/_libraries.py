@@ -98,6 +98,9 @@ _ENDS: Dict[str, Dict[str, List[Any]]] = {
         "sm_audit": _READ + _ASKED,
         "sm_draw": _READ + _ASKED,
         "sm_accuse": [c_uint32] + _READ + _ASKED,
+        "sm_told": _ANSWER + [c_uint32] + _ANSWER,
+        "sm_evidence_in": _ANSWER + [c_uint32] + _ANSWER,
+        "sm_held": _ANSWER + [c_uint32] + _ANSWER,
         "sm_evidence": _READ + _ASKED,
         "sm_receipt": [c_uint32] + _READ + _ASKED,
         "sm_receipts": _READ + _ASKED,
@@ -113,6 +116,7 @@ _ENDS: Dict[str, Dict[str, List[Any]]] = {
         "sm_system": [c_uint32, c_uint32, c_uint32, c_char_p] + _READ + _ANSWER,
         "sm_admission": [c_uint32] + _READ + [POINTER(Roots), c_size_t] + _ANSWER,
         "sm_admit": [c_uint32] + _READ + _READ + _ANSWER,
+        "sm_lms_verify": _READ + _READ + _READ + _ANSWER,
         "sm_answer_text": _ANSWER + _WRITTEN,
         "sm_answer_facts": _ANSWER + [POINTER(Fact), c_size_t, POINTER(c_size_t)],
         "sm_answer_free": _ANSWER,
@@ -272,12 +276,18 @@ def held(name: str, call: Callable[[Any], int]) -> Tuple[int, bytes, List[Fact]]
     functions = library(name)
     try:
         status = call(ctypes.byref(answer))
-        if not answer.value:
-            return status, b"", []
-        data = written(lambda *ends: int(functions.sm_answer_text(ctypes.byref(answer), *ends)), 0)[1]
-        return status, data, _facts_of(functions, answer)
+        return status, *parts_of(name, answer)
     finally:
         functions.sm_answer_free(ctypes.byref(answer))
+
+
+def parts_of(name: str, answer: c_void_p) -> Tuple[bytes, List[Fact]]:
+    """The bytes and the facts that an answer holds, which stays."""
+    if not answer.value:
+        return b"", []
+    functions = library(name)
+    data = written(lambda *ends: int(functions.sm_answer_text(ctypes.byref(answer), *ends)), 0)[1]
+    return data, _facts_of(functions, answer)
 
 
 def _facts_of(functions: ctypes.CDLL, answer: c_void_p) -> List[Fact]:

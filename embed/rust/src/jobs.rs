@@ -10,6 +10,8 @@ use crate::Fault;
 /// The forms of an answer.
 pub(crate) const TEXT: u32 = 0;
 pub(crate) const JSON: u32 = 1;
+/// The form of what was judged alone.
+pub(crate) const PICTURE: u32 = 2;
 /// The number of the version that both archives tell, as `SM_VERSION_NUMBER` of `sm_status.h`.
 const VERSION_NUMBER: u32 = 2000;
 /// The line of an admission of another system than the one that is expected.
@@ -295,13 +297,13 @@ pub fn run_ids(input: &[u8]) -> Result<Option<Vec<RunId>>, Fault> {
 }
 
 /// What a file is, line by line, as `sm_tool show` writes it. It is a no if and only if the file is no whole bundle,
-/// campaign, evidence or header.
+/// campaign, evidence, header, receipts, system, admission or file of roots.
 pub fn show(input: &[u8]) -> Result<Answer, Fault> {
     show_of(&[], input)
 }
 
 /// What a file of the runs that are expected is, as [`show`]. Faults are those of [`audit_of`], and a file that is not
-/// whole is [`Fault::OtherRun`] too, if anything is expected.
+/// whole, or of no run, is [`Fault::OtherRun`] too, if anything is expected.
 pub fn show_of<'a>(runs: impl Into<Expected<'a>>, input: &[u8]) -> Result<Answer, Fault> {
     asked(raw::sm_show, &options(runs, false, TEXT)?, input).map(in_words)
 }
@@ -341,6 +343,17 @@ pub fn refute(evidence: &[u8], log: &[u8]) -> Result<Option<String>, Fault> {
     let call = |answer| unsafe { raw::sm_refute(at, length, log.as_ptr(), log.len(), answer) };
     let (is_no, mut held) = ended(Held::by(call))?;
     Ok((!is_no).then(|| text_of(held.text())))
+}
+
+/// Whether a signature of a text verifies under a public key of RFC 8554, as `sm_tool lms-verify` writes it: a signature
+/// that fails is a no, with the name of the reason. [`Fault::Input`] is of the key. A leaf of a tree signs one text, and
+/// the call does not know what the leaf signed before.
+pub fn lms_verify(key: &[u8], text: &[u8], signature: &[u8]) -> Result<Answer, Fault> {
+    let (at, length) = (signature.as_ptr(), signature.len());
+    // SAFETY: as in `asked`.
+    let call =
+        |answer| unsafe { raw::sm_lms_verify(key.as_ptr(), key.len(), text.as_ptr(), text.len(), at, length, answer) };
+    ended(Held::by(call)).map(in_words)
 }
 
 /// The version of the archives, as `0.2.0`: that of `sm_embed`, which is that of both if
@@ -547,6 +560,18 @@ mod tests {
         assert!(names.iter().all(|name| header.contains(name)));
         let ends = [2, 4, 6, 7].map(|status| ended(Held::by(|_| status)).err());
         assert_eq!(ends, [Fault::Misuse, Fault::Memory, Fault::Nobody, Fault::OtherRun].map(Some));
+    }
+
+    #[test]
+    fn signatures() {
+        let key = include_bytes!("../../../examples/lms/key");
+        let text = include_bytes!("../../../examples/lms/text");
+        let signature = include_bytes!("../../../examples/lms/signature");
+        let told = |text: &[u8], signature: &[u8]| lms_verify(key, text, signature);
+        assert_eq!(told(text, signature), Ok(Answer::Yes("signature verifies\n".to_owned())));
+        assert_eq!(told(b"", signature), Ok(Answer::No("signature fails W5\n".to_owned())));
+        assert_eq!(told(text, b""), Ok(Answer::No("signature fails W1\n".to_owned())));
+        assert_eq!(lms_verify(b"", text, signature), Err(Fault::Input("fault D1".to_owned())));
     }
 
     #[test]

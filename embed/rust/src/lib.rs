@@ -40,7 +40,8 @@ pub use jobs::{
     accuse, accuse_of, accuse_receipts, audit, audit_json, audit_of, decide, decide_json, decisions, draw, draw_of,
 };
 pub use jobs::{audits, run_ids, show, show_json, show_of, version, versions_match, words, Answer, Expected, RunId};
-pub use jobs::{evidence, evidence_json, evidence_of, explain, judge, plan, receipt, receipts, receipts_json, refute};
+pub use jobs::{evidence, evidence_json, evidence_of, explain, judge, lms_verify, plan, receipt, receipts};
+pub use jobs::{receipts_json, refute};
 pub use judged::Judged;
 pub use kept::{KeptState, StateFault};
 pub use node::{shown, Bundle, FrameHead, Keys, Node};

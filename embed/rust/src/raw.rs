@@ -121,6 +121,9 @@ pub struct SmLog {
 extern "C" {
     pub fn sm_audit(input: *const u8, input_bytes: usize, options: *const SmOptions, answer: *mut SmAnswer) -> u32;
     pub fn sm_draw(input: *const u8, input_bytes: usize, options: *const SmOptions, answer: *mut SmAnswer) -> u32;
+    pub fn sm_told(judged: *mut SmAnswer, form: u32, answer: *mut SmAnswer) -> u32;
+    pub fn sm_evidence_in(judged: *mut SmAnswer, general: u32, answer: *mut SmAnswer) -> u32;
+    pub fn sm_held(judged: *mut SmAnswer, faulty: u32, answer: *mut SmAnswer) -> u32;
     pub fn sm_evidence(input: *const u8, input_bytes: usize, options: *const SmOptions, answer: *mut SmAnswer) -> u32;
     pub fn sm_receipts(input: *const u8, input_bytes: usize, options: *const SmOptions, answer: *mut SmAnswer) -> u32;
     pub fn sm_decide(input: *const u8, input_bytes: usize, options: *const SmOptions, answer: *mut SmAnswer) -> u32;
@@ -144,6 +147,15 @@ extern "C" {
         evidence_bytes: usize,
         log: *const u8,
         log_bytes: usize,
+        answer: *mut SmAnswer,
+    ) -> u32;
+    pub fn sm_lms_verify(
+        key: *const u8,
+        key_bytes: usize,
+        text: *const u8,
+        text_bytes: usize,
+        signature: *const u8,
+        signature_bytes: usize,
         answer: *mut SmAnswer,
     ) -> u32;
     pub fn sm_explain(input: *const u8, input_bytes: usize, answer: *mut SmAnswer) -> u32;
@@ -292,6 +304,11 @@ impl Held {
         (call(&mut held.0), held)
     }
 
+    /// The answer, for a call that takes it.
+    pub fn at(&mut self) -> *mut SmAnswer {
+        &mut self.0
+    }
+
     /// The bytes that are held: none if nothing is.
     pub fn text(&mut self) -> Vec<u8> {
         // SAFETY: the pointers are of pieces of memory of these lengths that do not overlap, and nobody else has them.
@@ -304,6 +321,9 @@ impl Held {
         written(0, |room, length, count| unsafe { sm_answer_facts(&mut self.0, room, length, count) }).1
     }
 }
+
+// SAFETY: an answer may go from thread to thread, with one call at a time.
+unsafe impl Send for Held {}
 
 impl Drop for Held {
     fn drop(&mut self) {

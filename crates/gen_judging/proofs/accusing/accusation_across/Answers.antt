@@ -1,4 +1,4 @@
-use Rattle.std.proofs.Common.{◌≡◌, ◌∙◌, Contains, List, ℕ, map, ap, subst}
+use Rattle.std.proofs.Common.{◌≡◌, ◌∙◌, Contains, map, ap, subst}
 use Rattle.gen_convict.specs.Contradictions.{AcrossRuns}
 use Rattle.gen_convict.specs.Evidence.{Accusation, told_of}
 use Rattle.gen_convict.specs.EvidenceSpelling.{evidence_spelling}

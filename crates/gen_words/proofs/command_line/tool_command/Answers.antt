@@ -34,9 +34,11 @@ returns c =
     (extended _ _ _ _ _ _
     (extended _ _ _ _ _ _
     (extended _ _ _ _ _ _
+    (extended _ _ _ _ _ _
     (extended _ _ _ _ _ _ (λ _. ap app_of c.of.ensures ∙ bare) c.with_scenarios-tool.ensures.kept c.with_scenarios-tool.ensures.app)
     c.with_bundles-tool.ensures.kept c.with_bundles-tool.ensures.app)
     c.with_showing-tool.ensures.kept c.with_showing-tool.ensures.app)
     c.with_preparing.ensures.kept c.with_preparing.ensures.app)
     c.with_systems-tool.ensures.kept c.with_systems-tool.ensures.app)
+    c.with_signatures.ensures.kept c.with_signatures.ensures.app)
     c.with_telling.ensures.kept c.with_telling.ensures.app)

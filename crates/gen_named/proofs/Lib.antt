@@ -1,0 +1,9 @@
+mod Acting
+mod Agree
+mod Deciding
+mod Fitting
+mod Hearing
+mod Matching
+mod Naming
+mod OtherNames
+mod Passing

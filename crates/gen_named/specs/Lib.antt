@@ -1,0 +1,6 @@
+pub mod Explained
+pub mod Matched
+pub mod Named
+pub mod OtherNames
+pub mod Renamed
+pub mod Theorem

@@ -1,0 +1,11 @@
+pub mod AdmissionData
+pub mod AdmissionText
+pub mod FaultNames
+pub mod JsonShowing
+pub mod ReceiptsData
+pub mod ReceiptsText
+pub mod RootsData
+pub mod RootsText
+pub mod Showing
+pub mod SystemData
+pub mod SystemText
