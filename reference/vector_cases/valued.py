@@ -11,7 +11,7 @@ from model.faults import Cursor
 from model.log import Recv, Send, Sign, Start
 from model.network import Network
 from model.show import listed
-from model.version_3 import audit, bundle, chain, evidence, header, log, node, receipt
+from model.version_3 import audit, bundle, chain, evidence, header, log, node, plan, receipt
 
 from .parts import Vector, given_as, reading, with_byte
 from .small import entry_text
@@ -48,7 +48,8 @@ def header_fields(data: bytes) -> Vector:
     return {"run": read.run, "run id": read.run_id.hex(), "system id": system.system_id.hex(), "payload": system.most,
             "proposer": system.proposer, "height": system.height, "runs": system.runs, "length of a signature": system.signature_length,
             "generals": network.generals, "edges": [list(edge) for edge in network.edges],
-            "nodes": [system.node_of(read.run, it) for it in range(network.generals)], "bytes behind it": len(cursor.rest())}
+            "nodes": [system.node_of(read.run, it) for it in range(network.generals)], "bytes behind it": len(cursor.rest()),
+            "longest frame": plan.longest_frame(read), "longest log": plan.longest_log(read)}
 
 
 def system_fields(data: bytes) -> Vector:
