@@ -1,5 +1,5 @@
 -- The status of an output that was written, or was not.
-use Rattle.std.proofs.Common.{◌≡◌, ◌∙◌, ℕ, Bool, true, false, if◌then◌else◌, List, Option, inl, inr, refl, ap, sym}
+use Rattle.std.proofs.Common.{◌≡◌, ◌∙◌, ℕ, Bool, if◌then◌else◌, List, Option, inl, inr, ap, sym}
 use Rattle.gen_ends.specs.Ends.{IsWritten, status_of}
 use Rattle.gen_ends.specs.declared.ends.JobEnd.{JobEnd}
 use Rattle.gen_ends.specs.declared.ends.JobEnd.TheVariants.{Done, Negative, Failed}
