@@ -3,7 +3,7 @@
 That a proof breaks where a definition is weakened does not show that a law is false then. So each edit of edits/gen_named and of
 the crate's must-fail has a case here, over the definitions as Python (naming.py): by the definitions as they stand the law holds of
 it, and by the weakened one it does not. Runs that are drawn, and logs that are bent, try the laws by the definitions as they
-stand. No program is tried.
+stand. So does each run of a small world. No program is tried.
 """
 import itertools
 import os
@@ -204,6 +204,38 @@ CASES = [full_with_one_order, full_one_round_later, one_value_two_names, third_o
          faulty_by_the_senders_orders, left_out_whatever_the_value]
 
 
+# ---- a small world, whole
+
+
+def namings(names, come):
+    """Each way in which a general with these names can name what comes."""
+    new, left = sorted(set(come) - set(names.values())), [i for i in (1, 2) if i not in names]
+    count = min(len(new), len(left))
+    for values, orders in itertools.product(itertools.permutations(new, count), itertools.combinations(left, count)):
+        yield {**names, **dict(zip(orders, values))}
+
+
+def small_world():
+    """Each run of three generals, all neighbours, whose commander is faulty and gives each lieutenant any of three values."""
+    subsets = [come for count in range(4) for come in itertools.combinations((A, B, C), count)]
+    for first, second in itertools.product(subsets, subsets):
+        for one, two in itertools.product(namings({}, first), namings({}, second)):
+            run = [given(g, v) for g, come in ((1, first), (2, second)) for v in come]
+            run += [told(1, 2, v) for v in one.values()] + [told(2, 1, v) for v in two.values()]
+            for names in itertools.product(namings(one, two.values()), namings(two, one.values())):
+                yield with_logs(with_parts(network(3, 1, 1), (0,), run, {1: names[0], 2: names[1]}))
+
+
+def world_wrong():
+    """What is wrong with a run of the small world, or None."""
+    stand = Definitions()
+    for case in small_world():
+        lawful = stand.premises(case) and stand.logs_fit(case) and stand.match(case)
+        if not lawful or laws_broken(case, ("agree", "fit", "edges", "derived")):
+            return f"run {sorted(case.run)} with the names {case.names}"
+    return None
+
+
 # ---- runs that are drawn
 
 
@@ -319,6 +351,7 @@ def names_wrong():
 
 def trials(_, tally):
     tally.hold("edits", names_wrong())
+    tally.hold("the small world", world_wrong())
     for make in tally.chosen(CASES):
         tally.hold(make.__name__, case_wrong(make))
     for number in range(RUNS if tally.case is None else 0):

@@ -20,7 +20,7 @@ from model.bundle import Exhibit
 from model.faults import Cursor
 from model.log import Recv, Send, Sign, Start
 from model.network import make_network
-from model.version_3 import audit, bundle, chain, evidence, header, log, node, receipt
+from model.version_3 import audit, bundle, chain, evidence, header, log, node, plan, receipt
 
 RUNS, BENDS = 120, 6
 # So many parcels of the faulty are drawn for a frame, of which few have a path that is possible.
@@ -99,6 +99,11 @@ def drawn_system(drawn):
                 return header.System(net, MOST, 0, drawn.randbytes(32), tuple(ring(it).public() for it in range(n))), faulty
 
 
+def framed_length(frame):
+    """The bytes of a frame on the wire."""
+    return 41 + sum(4 + len(parcel) for parcel in frame)
+
+
 def played(drawn, run, faulty):
     """The nodes of the rest after a run beside liars."""
     net = run.network
@@ -107,6 +112,7 @@ def played(drawn, run, faulty):
     liars = Liars(drawn, run, faulty)
     for number in range(1, net.rounds + 1):
         sent = {g: it.frames(number) for g, it in nodes.items()}
+        assert all(framed_length(it) <= plan.longest_frame(run) for frames in sent.values() for it in frames.values())
         sent.update({f: {to: liars.frame(number, f, to) for to in net.neighbours(f)} for f in faulty})
         for g, it in nodes.items():
             for sender in drawn.sample(net.neighbours(g), len(net.neighbours(g))):
@@ -309,6 +315,8 @@ def run_wrong(run, faulty, nodes):
     shown = made_bundle(run, faulty, logs)
     if bundle.read_bundle(shown.spell()) != shown or any(log.read_log(it.spell(), run) != it for it in logs.values()):
         return "a bundle or a log is not read as it was written"
+    if any(len(it.spell()) > plan.longest_log(run) for it in logs.values()):
+        return "a log is longer than the longest"
     outcomes = {it.decision() for g, it in nodes.items() if g}
     if len(outcomes) > 1 or (0 in nodes and outcomes - {nodes[0].payloads[1]}):
         return f"decided: {outcomes}"

@@ -11,7 +11,7 @@ from model.faults import Cursor
 from model.log import Recv, Send, Sign, Start
 from model.network import Network
 from model.show import listed
-from model.version_3 import audit, bundle, chain, evidence, header, log, node, receipt
+from model.version_3 import audit, bundle, chain, evidence, header, log, node, plan, receipt, text
 
 from .parts import Vector, given_as, reading, with_byte
 from .small import entry_text
@@ -48,7 +48,8 @@ def header_fields(data: bytes) -> Vector:
     return {"run": read.run, "run id": read.run_id.hex(), "system id": system.system_id.hex(), "payload": system.most,
             "proposer": system.proposer, "height": system.height, "runs": system.runs, "length of a signature": system.signature_length,
             "generals": network.generals, "edges": [list(edge) for edge in network.edges],
-            "nodes": [system.node_of(read.run, it) for it in range(network.generals)], "bytes behind it": len(cursor.rest())}
+            "nodes": [system.node_of(read.run, it) for it in range(network.generals)], "bytes behind it": len(cursor.rest()),
+            "longest frame": plan.longest_frame(read), "longest log": plan.longest_log(read)}
 
 
 def system_fields(data: bytes) -> Vector:
@@ -77,6 +78,29 @@ def header_vectors() -> Iterable[Vector]:
              ("a byte behind it", file + b"\0")]
     return [reading(f"header: {about}", data, header_fields) for about, data in [*good, *bad]] + \
            [reading(f"system: {about}", data, system_fields) for about, data in files]
+
+
+def text_vectors() -> Iterable[Vector]:
+    """Texts of a system, and each fault of one that version 1 has not so."""
+    front = "generals 2\nedge 0 1\ntraitors 0\ndiameter 1\norders 3\nchoice 0\n"
+    keys = [f"key {it.spell().hex()}\n" for it in system_of(network_of(2)).keys]
+    whole = front + "payload 1000\n" + "".join(keys) + "end\n"
+    tall = system_of(network_of(2), tree_type=6).keys[1].spell().hex()
+    cases = [("a system", whole), ("digits of the other case", whole.replace(keys[1], keys[1].upper().replace("KEY", "key"))),
+             ("no line of the payload", whole.replace("payload 1000\n", "")),
+             ("a payload with a leading zero", whole.replace("payload 1000", "payload 01000")), ("two orders", whole.replace("orders 3", "orders 2")),
+             ("choice 1", whole.replace("choice 0", "choice 1")), ("two orders, and a payload that does not read",
+                                                                   whole.replace("orders 3", "orders 2").replace("1000", "-")),
+             ("a payload of 2^20 + 1 bytes", whole.replace("1000", "1048577")), ("a payload of 2^32 bytes", whole.replace("1000", "4294967296")),
+             ("a key of 110 digits", whole.replace(keys[1], keys[1][:-3] + "\n")), ("a tree of another type", whole.replace("key 00000005", "key 0000000a")),
+             ("another height", whole.replace(keys[1], f"key {tall}\n")), ("a key is missing", whole.replace(keys[1], "")),
+             ("two equal keys", whole.replace(keys[1], keys[0])), ("a line behind the end", whole + "\n")]
+    return [reading(f"text: {about}", data.encode("ascii"), text_fields) for about, data in cases]
+
+
+def text_fields(data: bytes) -> str:
+    """The system of a text with proposer 0 and a context of zero bytes, in hexadecimal digits."""
+    return text.system_of_text(data, 0, bytes(32)).spell().hex()
 
 
 # Chains and logs, whose signatures are zero bytes.
@@ -221,5 +245,5 @@ def evidence_vectors(run: header.Header) -> Iterable[Vector]:
 
 def value_vectors() -> Iterable[Vector]:
     """All vectors of version 3."""
-    for make in (header_vectors, chain_vectors, log_vectors, run_vectors):
+    for make in (header_vectors, text_vectors, chain_vectors, log_vectors, run_vectors):
         yield from make()

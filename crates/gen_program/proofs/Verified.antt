@@ -1,5 +1,5 @@
 -- The status of an output that was written, or was not.
-use Rattle.std.proofs.Common.{◌≡◌, ◌∙◌, ℕ, Bool, true, false, if◌then◌else◌, List, Option, inl, inr, refl, ap, sym}
+use Rattle.std.proofs.Common.{◌≡◌, ◌∙◌, ℕ, Bool, if◌then◌else◌, List, Option, inl, inr, ap, sym}
 use Rattle.gen_ends.specs.Ends.{IsWritten, status_of}
 use Rattle.gen_ends.specs.declared.ends.JobEnd.{JobEnd}
 use Rattle.gen_ends.specs.declared.ends.JobEnd.TheVariants.{Done, Negative, Failed}
@@ -7,7 +7,7 @@ use Rattle.gen_ends.specs.declared.ends.JobFault.{JobFault}
 use Rattle.gen_program.specs.Verifying.{IsToldStatus}
 
 -- the status of a yes, or of a no
-of_answer : Bool → ℕ
+abbrev of_answer : Bool → ℕ
 of_answer negative = if negative then status_of Negative else status_of Done
 
 pub status_told : (text : List ℕ) (negative : Bool) (old new : Option (List ℕ)) (end : JobEnd) (status : ℕ) → IsWritten text negative old new end → status ≡ status_of end → IsToldStatus negative status

@@ -63,7 +63,11 @@ fn runs_of_set(version: Version) -> u8
 pub fn run_count(system: &System) -> u32
     ensures { result ≡ run_count_of system.now }
 {
-    set_count(system.levels()) * u32::from(runs_of_set(system.header().version()))
+    let sets = set_count(system.levels());
+    match system.header().version() {
+        Version::One => sets,
+        Version::Two { .. } => 4 * sets,
+    }
 }
 
 /// Returns the numbers of the runs of an admission's set, ascending.

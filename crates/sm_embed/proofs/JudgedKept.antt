@@ -1,6 +1,6 @@
 -- What is kept of what was judged, and what is made of it.
 use native.Mathlib.Omega.{arith}
-use Rattle.std.proofs.Common.{◌≡◌, ◌≤◌, ◌<◌, ℕ, Bool, List, Option, Some, None, Result, Ok, Err, ◌⊎◌, inl, inr, refl, sym, ap, subst, length, [], ◌∷◌, ◌∙◌}
+use Rattle.std.proofs.Common.{◌≡◌, ◌≤◌, ◌<◌, ℕ, Bool, List, Option, Some, None, Result, Ok, Err, inl, inr, refl, sym, ap, subst, length, [], ◌∷◌, ◌∙◌}
 use Rattle.std.specs.Prelude.{IfOk, IfErr, nat_lt}
 use Rattle.std.specs.List.{AllZip, list_any}
 use Rattle.gen_net.specs.Header.{RunHeader}

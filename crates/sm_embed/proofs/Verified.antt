@@ -1,5 +1,5 @@
 -- What is made of a verdict on a signature.
-use Rattle.std.proofs.Common.{◌≡◌, ℕ, List, Option, Some, None, Result, Ok, Err, inl, inr, refl}
+use Rattle.std.proofs.Common.{ℕ, List, Option, Some, None, Result, Ok, Err, inl, inr, refl}
 use Rattle.std.specs.Prelude.{IfOk, IfErr}
 use Rattle.gen_lms.specs.declared.faults.KeyFault.{KeyFault}
 use Rattle.gen_lms.specs.PublicKeys.{IsKeyFault}

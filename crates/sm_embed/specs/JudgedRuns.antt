@@ -8,7 +8,6 @@ use Rattle.gen_asked.specs.declared.forms.Form.{Form}
 use Rattle.gen_asked.specs.declared.forms.Form.TheVariants.{Text, Json}
 use Rattle.gen_asked.specs.declared.jobs.Job.{Job}
 use Rattle.gen_asked.specs.declared.jobs.Job.TheVariants as jobs
-use Rattle.gen_ends.specs.declared.ends.JobFault.{JobFault}
 use Rattle.gen_enrolling.specs.declared.admitted.AdmittedRuns.{AdmittedRuns}
 use Rattle.gen_enrolling.specs.declared.among.JobAmong.{JobAmong}
 use Rattle.gen_enrolling.specs.Admitted.{AreAdmitted}

@@ -1,5 +1,5 @@
 -- What is held of a verdict on a signature, or of the fault of a public key.
-use Rattle.std.specs.Prelude.{ℕ, ◌≡◌, ◌⊎◌, Option, Some, None, Result, Ok, Err}
+use Rattle.std.specs.Prelude.{ℕ, ◌≡◌, Option, Some, None, Result, Ok, Err}
 use Rattle.gen_lms.specs.declared.faults.KeyFault.{KeyFault}
 use Rattle.gen_verifying.specs.Lines.{key_fault_line, verdict_text}
 use Rattle.gen_verifying.specs.declared.verdicts.Verdict.{Verdict}
