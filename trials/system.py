@@ -18,8 +18,10 @@ import socket
 import sys
 import tempfile
 
-from cargo_built import build_program
+from bindings import build_libraries
+from cargo_built import build_program, node_program
 from datagrams import free_addresses
+from embed import source
 from going_on import SECTION, follow
 from processes import ARCHIVE, MOST_TRIES
 from programs import commands_of
@@ -71,7 +73,9 @@ def go_on(program, tally):
     with tempfile.TemporaryDirectory() as folder:
         for name, path in (("sm_tool", program), ("vamuretu", nodes)):
             os.symlink(path, os.path.join(folder, name))
-        follow(tally, folder, os.path.abspath(TOP))
+        libraries = os.path.join(folder, "libraries")
+        build_libraries(libraries, source("heap.c"), {it: node_program.archive_of(TOP, it) for it in node_program.ARCHIVES})
+        follow(tally, folder, os.path.abspath(TOP), libraries)
 
 
 def trials(program, tally):

@@ -6,6 +6,7 @@ use std::thread;
 use std::time::{Duration, Instant};
 
 use super::Shared;
+use crate::clock;
 use crate::systems::{Run, Systems};
 use crate::End;
 
@@ -88,6 +89,9 @@ fn work(shared: &Shared) {
         let number = shared.ahead.wanted(&shared.systems);
         let made = shared.systems.run(number);
         let failed = made.as_ref().err().map(|end| end.line.clone());
+        if let Ok(run) = &made {
+            shared.apart.begins(run.run_id, clock::beginning(number, &shared.file.clock));
+        }
         shared.ahead.put(number, made);
         let Some(told) = failed else { continue };
         if said.as_ref().map_or(true, |(line, at)| *line != told || at.elapsed() >= SAID_AGAIN) {

@@ -2,6 +2,7 @@
 
 mod ahead;
 mod answers;
+mod apart;
 pub mod counts;
 mod devices;
 mod gather;
@@ -31,9 +32,10 @@ use tokio::net::TcpListener;
 use tokio::runtime::{Builder, Runtime};
 use tokio::signal::unix::{signal, SignalKind};
 use tokio::sync::broadcast;
-use vamuretu::{NextRun, Node, NodeFault};
+use vamuretu::{FrameHead, NextRun, Node, NodeFault};
 
 use self::ahead::Ahead;
+use self::apart::{Apart, Bounds};
 use self::counts::Counts;
 use self::gather::{Gather, Opened};
 use self::inbox::{Inbox, Inboxes};
@@ -46,7 +48,7 @@ use self::telling::{Source, Telling};
 use self::vote::Votes;
 use self::waits::{Passing, Waits};
 use crate::clock::{self, Guard, Look};
-use crate::config::NodeFile;
+use crate::config::{Clock, NodeFile};
 use crate::doors::Door;
 use crate::frames::Transport;
 use crate::systems::{Run, Systems};
@@ -122,6 +124,17 @@ fn run_to_propose_in(asked: Option<u32>, next: u32, runs: u64, is_own: impl Fn(u
     }
 }
 
+/// How long before its beginning a run is open at the latest, in milliseconds: frames of neighbours whose clocks are ahead
+/// find it.
+fn least_lead_ms(clock: &Clock) -> i64 {
+    2 * i64::from(clock.bound_ms)
+}
+
+/// How long before its beginning a run is opened, in milliseconds. What is more than the least is for a machine that is late.
+fn lead_ms(clock: &Clock) -> i64 {
+    i64::from(clock.period_ms / 2).clamp(LEAST_LEAD_MS, MOST_LEAD_MS) + least_lead_ms(clock)
+}
+
 /// The lines of decisions, for all applications.
 type Decisions = broadcast::Sender<Arc<str>>;
 
@@ -133,6 +146,8 @@ pub struct Shared {
     pub counts: Counts,
     pub links: Links,
     pub inboxes: Inboxes,
+    /// Whose clock is wrong, by when frames come.
+    pub apart: Apart,
     pub spool: Spool,
     pub longest_frame: usize,
     proposals: Mutex<Proposals>,
@@ -166,6 +181,12 @@ impl Shared {
             counts,
             links,
             inboxes: Inboxes::default(),
+            apart: Apart::new(Bounds {
+                early_ms: lead_ms(&file.clock),
+                late_ms: i64::from(file.clock.round_ms) + least_lead_ms(&file.clock),
+                period: file.clock.period(),
+                traitors: first.traitors,
+            }),
             longest_frame,
             proposals: Mutex::new(Proposals { newest: next.checked_sub(1), orders: BTreeMap::new() }),
             telling: Telling::new(file.system.id, decisions.clone()),
@@ -183,6 +204,17 @@ impl Shared {
         let (sets, slots) = (self.systems.runs() / self.systems.slots(), self.systems.slots());
         let used = newest.map_or(0, |run| 1 + u64::from(run) / slots);
         self.counts.sets_left.set(sets.saturating_sub(used) as i64);
+    }
+
+    /// Compares when a frame of a neighbour comes with the clock, by which this node has begun a run.
+    pub fn compare_clocks(&self, node: u32, head: &FrameHead) {
+        if self.waits_for().is_some() || self.counts.newest.get() < 0 {
+            return;
+        }
+        if let Some(why) = self.apart.note(node, head, clock::now_ms(), Instant::now()) {
+            tracing::error!(alarm = "apart", %why, "frames do not come in time");
+        }
+        self.counts.apart.with_label_values(&[&node.to_string()]).set(self.apart.of(node).is_some().into());
     }
 
     /// Counts a frame that was refused.
@@ -257,15 +289,12 @@ impl Shared {
         self.proposals.lock().unwrap_or_else(|told| told.into_inner())
     }
 
-    /// How long before its beginning a run is open at the latest, in milliseconds: frames of neighbours whose clocks are ahead
-    /// find it.
     fn least_lead_ms(&self) -> i64 {
-        2 * i64::from(self.file.clock.bound_ms)
+        least_lead_ms(&self.file.clock)
     }
 
-    /// How long before its beginning a run is opened, in milliseconds. What is more than the least is for a machine that is late.
     fn lead_ms(&self) -> i64 {
-        i64::from(self.file.clock.period_ms / 2).clamp(LEAST_LEAD_MS, MOST_LEAD_MS) + self.least_lead_ms()
+        lead_ms(&self.file.clock)
     }
 
     /// The next run at a time that is above a mark, and can still be opened.
@@ -381,7 +410,7 @@ impl Scheduler {
         }
         let all = shared.counts.missed.get();
         if let Some(runs) = self.passing.alarm(all, Instant::now()) {
-            tracing::error!(alarm = "missed", runs, all, "runs did not begin");
+            tracing::error!(alarm = "missed", runs, all, next = self.passing.next(), "runs did not begin");
         }
     }
 
