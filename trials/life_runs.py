@@ -13,10 +13,10 @@ import sqlite3
 import time
 from typing import NamedTuple
 
-# What a line says of a run, how this is told, and whether it is the machine that was too busy, or a start.
+# What a line says of a run, how this is told, and whether it is the machine that was too busy.
 SAID = {
     "decided": ("decided it, and its log did not come", False),
-    "too late to begin": ("was too late to begin it", True),
+    "too late to begin": ("was {late_ms} ms too late to begin it, for which the disk took {disk_ms} ms", True),
     "the run does not begin": ("did not begin it", False),
     "the run ended without a decision": ("ended it without a decision", False),
     "the log was not kept": ("did not keep its log", False),
@@ -144,14 +144,17 @@ class System:
     def reason(self, node, number):
         """Why a run has no log of a node, or no decision."""
         begins = self.begins(number)
-        near = [told for at, told in self.said(node) if -BEFORE < at - begins < BEHIND and told.get("run") == number]
-        for told in near:
-            if told["message"] in SAID:
-                said, is_busy = SAID[told["message"]]
-                return Reason(f"node {node} {said}{': ' + told['told'] if 'told' in told else ''}", is_busy, False)
-        if not self.was_there(node, begins - 1):
-            return Reason(f"node {node} did not run", False, True)
-        return Reason(f"node {node} ran, and the run passed before it could open it", True, False)
+        near = [told for at, told in self.said(node) if -BEFORE < at - begins < BEHIND]
+        for told in (it for it in near if it.get("run") == number and it["message"] in SAID):
+            said, is_busy = SAID[told["message"]]
+            return Reason(f"node {node} {said.format_map(told)}{': ' + told['told'] if 'told' in told else ''}", is_busy, False)
+        for told in (it for it in near if it["message"] == "runs have passed" and it["first"] <= number <= it["last"]):
+            said = told.get("waits_for") or "it looked at the clock {looked_ms} ms before, and the disk took {disk_ms} ms".format_map(told)
+            return Reason(f"node {node} let it pass: {said}", "waits_for" not in told, False)
+        starts = any(it["message"] == "the first run by the clock" and it["next"] > number for it in near)
+        if starts or not self.was_there(node, begins - 1):
+            return Reason(f"node {node} {'was being started' if starts else 'did not run'}", False, True)
+        return Reason(f"node {node} ran, and says nothing of it", False, False)
 
     def lost(self, last, is_full):
         """The runs up to the last that are lost, each with what its nodes did: those without a log, and where all have to be full

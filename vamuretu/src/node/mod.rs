@@ -377,6 +377,9 @@ struct Scheduler {
     keeper: Keeper,
     passing: Passing,
     life: life::Told,
+    /// When the clock was looked at last, and how long the disk took for the mark and the state of the last run.
+    looked: Instant,
+    disk: Duration,
     /// The run that begins next, whose header is made while there is time.
     prepared: Option<Run>,
     under_way: Vec<JoinHandle<()>>,
@@ -404,6 +407,7 @@ impl Scheduler {
             let opens_ms = now_ms.saturating_add(shared.least_lead_ms());
             let missed = self.passing.pass(opens_ms, self.keeper.newest(), shared.systems.runs(), &shared.file.clock);
             shared.counts.missed.inc_by(missed.into());
+            self.tell_passed(missed);
             shared.lose_below(self.passing.next(), PASSED);
             shared.gather.iter().for_each(|gather| gather.pass(self.passing.next()));
             shared.pass_votes(self.passing.next());
@@ -411,6 +415,15 @@ impl Scheduler {
         let all = shared.counts.missed.get();
         if let Some(runs) = self.passing.alarm(all, Instant::now()) {
             tracing::error!(alarm = "missed", runs, all, next = self.passing.next(), "runs did not begin");
+        }
+    }
+
+    /// Says which runs have passed since the last look, when that was, and how long the disk took for the run before them.
+    fn tell_passed(&self, missed: u32) {
+        if let Some(last) = self.passing.next().checked_sub(1).filter(|_| missed > 0) {
+            let (first, looked_ms) = (last - (missed - 1), self.looked.elapsed().as_millis());
+            let (disk_ms, waits_for) = (self.disk.as_millis(), self.shared.waits_for().map(|it| it.to_string()));
+            tracing::warn!(first, last, looked_ms, disk_ms, waits_for, "runs have passed");
         }
     }
 
@@ -422,6 +435,7 @@ impl Scheduler {
             self.shared.counts.under_way.set(self.under_way.len() as i64);
             let look = self.look();
             self.count_missed(&look);
+            self.looked = look.at;
             let wait = match look.wrong {
                 None => self.begin_if_due(&look)?,
                 Some(wrong) => {
@@ -482,7 +496,10 @@ impl Scheduler {
             run.general_of(shared.file.node.number).ok_or_else(|| End::failed("this node is none of the run's"))?;
         let inbox = shared.inboxes.open(Inbox::new(&run, own));
         shared.expect_receipts(&run, begins);
-        let keys = match self.keeper.begin(number, run.set, shared.systems.version()) {
+        let since = Instant::now();
+        let keys = self.keeper.begin(number, run.set, shared.systems.version());
+        self.disk = since.elapsed();
+        let keys = match keys {
             Ok(keys) => keys,
             Err(told) => {
                 tracing::error!(alarm = "state", run = number, %told, "the run does not begin");
@@ -504,8 +521,9 @@ impl Scheduler {
         if let Some(votes) = &shared.votes {
             votes.begin(number);
         }
+        let disk = self.disk;
         let play = move || {
-            if !play(&shared, &run, node, &inbox, begins) {
+            if !play(&shared, &run, node, &inbox, begins, disk) {
                 shared.telling.note(number, false);
                 shared.end_in_votes(&run, None);
                 let lost = proposed.into_iter().map(|order| (number, order)).collect();
@@ -518,12 +536,14 @@ impl Scheduler {
     }
 }
 
-/// Makes a run, tells its decision, and keeps its log. Tells whether there is a decision.
-fn play(shared: &Arc<Shared>, run: &Run, node: Node, inbox: &Inbox, begins: Instant) -> bool {
+/// Makes a run, for which the disk took so long, tells its decision, and keeps its log. Tells whether there is a decision.
+fn play(shared: &Arc<Shared>, run: &Run, node: Node, inbox: &Inbox, begins: Instant, disk: Duration) -> bool {
     thread::sleep(begins.saturating_duration_since(Instant::now()));
     // A node that has not begun signs nothing, and one that begins late would count as faulty.
-    if begins.elapsed() > Duration::from_millis(u64::from(shared.file.clock.round_ms) / 4) {
-        tracing::warn!(run = run.number, "too late to begin");
+    let late = begins.elapsed();
+    if late > Duration::from_millis(u64::from(shared.file.clock.round_ms) / 4) {
+        let (late_ms, disk_ms) = (late.as_millis(), disk.as_millis());
+        tracing::warn!(run = run.number, late_ms, disk_ms, "too late to begin");
         shared.counts.missed.inc();
         shared.inboxes.close(inbox);
         return false;
@@ -706,7 +726,8 @@ impl Started {
         tracing::info!(node = file.node.number, system = %hex::encode(file.system.id), mark = ?keeper.newest(), "started");
         let (passing, prepared, under_way) = (Passing::default(), None, vec![]);
         let life = life::Told::default();
-        let scheduler = Scheduler { shared: shared.clone(), keeper, passing, life, prepared, under_way };
+        let (looked, disk) = (Instant::now(), Duration::ZERO);
+        let scheduler = Scheduler { shared: shared.clone(), keeper, passing, life, looked, disk, prepared, under_way };
         Ok(Started { shared, scheduler })
     }
 
