@@ -1,7 +1,7 @@
 """The runs of a system for life.py: which are lost, and what each node did meanwhile, by its lines.
 
-A system has the files of docs/SYSTEM.md in a folder: configurations, the index of its watcher, and what its nodes have said. Two
-systems may be in one process, whose lines have the number of a run alone. So a line is of a run if it was said near its time.
+A system has the files of docs/SYSTEM.md in a folder: configurations, the index of its watcher, and what its nodes have said. Where
+two systems are in one process, the lines of the next one say of which system they are.
 """
 import collections
 import contextlib
@@ -21,6 +21,8 @@ SAID = {
     "the run ended without a decision": ("ended it without a decision", False),
     "the log was not kept": ("did not keep its log", False),
 }
+# What a process says that ends.
+ENDS = ("told to end", "ended")
 # How far from the beginning of a run its lines are, in seconds, before it and behind it.
 BEFORE, BEHIND = 2, 8
 
@@ -125,9 +127,12 @@ class System:
     # ---- what nodes did meanwhile
 
     def said(self, node):
-        """The lines of a node, of all of its processes."""
-        names = [f"{node}.said", f"{node}.toml.said", os.path.join("next", f"{node}.toml.said")]
-        return sorted((line for name in names for line in lines_of(os.path.join(self.place, name))), key=lambda it: it[0])
+        """The lines of a node of this system, of all of its processes. In the process of the next system alone none is named."""
+        alone = os.path.join("next", f"{node}.toml.said")
+        names = [f"{node}.said", f"{node}.toml.said", *([alone] if self.name == "next" else [])]
+        found = [(it, name) for name in names for it in lines_of(os.path.join(self.place, name))]
+        is_own = lambda told, name: name == alone or told.get("span", {}).get("system") == (self.id if self.name == "next" else None)
+        return sorted((it for it, name in found if is_own(it[1], name) or it[1]["message"] in ENDS), key=lambda it: it[0])
 
     def was_there(self, node, moment):
         """Whether a node of this system was at work at a moment, by the lines with which its processes began and ended."""
@@ -135,9 +140,9 @@ class System:
         for at, told in self.said(node):
             if at > moment:
                 break
-            if told["message"] == "started" and told.get("system") == self.id:
+            if told["message"] == "started":
                 is_there = True
-            elif told["message"] in ("told to end", "ended"):
+            elif told["message"] in ENDS:
                 is_there = False
         return is_there
 

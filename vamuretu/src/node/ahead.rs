@@ -8,6 +8,7 @@ use std::time::{Duration, Instant};
 use super::Shared;
 use crate::clock;
 use crate::systems::{Run, Systems};
+use crate::threads::of_system;
 use crate::End;
 
 /// No run that was made is kept that is further ahead than so many.
@@ -105,6 +106,6 @@ fn work(shared: &Shared) {
 /// Starts the thread.
 pub fn start(shared: &Arc<Shared>) -> Result<(), End> {
     let shared = shared.clone();
-    let started = thread::Builder::new().name("runs to come".into()).spawn(move || work(&shared));
+    let started = thread::Builder::new().name("runs to come".into()).spawn(of_system(move || work(&shared)));
     started.map(drop).map_err(|told| End::unusable("a thread", &told))
 }

@@ -32,6 +32,7 @@ use tokio::net::TcpListener;
 use tokio::runtime::{Builder, Runtime};
 use tokio::signal::unix::{signal, SignalKind};
 use tokio::sync::broadcast;
+use tracing::{Instrument, Span};
 use vamuretu::{FrameHead, NextRun, Node, NodeFault};
 
 use self::ahead::Ahead;
@@ -52,6 +53,7 @@ use crate::config::{Clock, NodeFile};
 use crate::doors::Door;
 use crate::frames::Transport;
 use crate::systems::{Run, Systems};
+use crate::threads::of_system;
 use crate::{descriptors, metrics, End};
 
 /// How long the longest sleep is between two looks at the clock.
@@ -530,7 +532,7 @@ impl Scheduler {
                 shared.tell_lost(&lost, "the run ended without a decision of this node");
             }
         };
-        let thread = thread::Builder::new().name(format!("run {number}")).stack_size(STACK).spawn(play);
+        let thread = thread::Builder::new().name(format!("run {number}")).stack_size(STACK).spawn(of_system(play));
         self.under_way.push(thread.map_err(|told| End::unusable("a thread", &told))?);
         Ok(())
     }
@@ -674,18 +676,18 @@ fn start(runtime: &Runtime, shared: &Arc<Shared>) -> Result<(), End> {
     let doors = Doors::new(file, &transport)?;
     let listeners = Listeners::open(runtime, file, &doors)?;
     let _inside = runtime.enter();
-    tokio::spawn(peers::take(shared.clone(), doors.peers, listeners.peers));
+    tokio::spawn(peers::take(shared.clone(), doors.peers, listeners.peers).in_current_span());
     if let (Some(door), Some(listener)) = (doors.devices, listeners.devices) {
-        tokio::spawn(devices::take(shared.clone(), door, listener));
+        tokio::spawn(devices::take(shared.clone(), door, listener).in_current_span());
     }
     for link in shared.links.all().filter(|link| link.peer.number < file.node.number) {
-        tokio::spawn(peers::keep_connected(shared.clone(), transport.clone(), link.clone()));
+        tokio::spawn(peers::keep_connected(shared.clone(), transport.clone(), link.clone()).in_current_span());
     }
     for (place, watcher) in file.watchers.iter().enumerate() {
-        tokio::spawn(ship::ship(shared.clone(), transport.clone(), place, watcher.clone()));
+        tokio::spawn(ship::ship(shared.clone(), transport.clone(), place, watcher.clone()).in_current_span());
     }
     if let Some(listener) = listeners.metrics {
-        tokio::spawn(metrics::serve(listener, shared.counts.registry.clone()));
+        tokio::spawn(metrics::serve(listener, shared.counts.registry.clone()).in_current_span());
     }
     Ok(())
 }
@@ -708,6 +710,8 @@ fn check(file: &NodeFile, systems: &Systems, first: &Run) -> Result<(), End> {
 struct Started {
     shared: Arc<Shared>,
     scheduler: Scheduler,
+    /// What its lines say of its system.
+    span: Span,
 }
 
 impl Started {
@@ -728,7 +732,7 @@ impl Started {
         let life = life::Told::default();
         let (looked, disk) = (Instant::now(), Duration::ZERO);
         let scheduler = Scheduler { shared: shared.clone(), keeper, passing, life, looked, disk, prepared, under_way };
-        Ok(Started { shared, scheduler })
+        Ok(Started { shared, scheduler, span: Span::current() })
     }
 
     /// Goes on until the node is told to end, or no run is left. Then it ends the runs under way, and hands out their logs.
