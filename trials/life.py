@@ -258,13 +258,10 @@ def follow(way):
     return count, f"{way.made[0]} and {way.made[1]} runs, {took:.0f} bytes of a run in the archive"
 
 
-def go(section, tool, vamuretu, slower):
+def go(section, programs, slower):
     """Goes a way in a folder of its own. Tells what is wrong, how many commands it was, and what came of it."""
     # A socket's address is short, so the folder has to be.
-    with tempfile.TemporaryDirectory(dir="/tmp") as place, tempfile.TemporaryDirectory() as programs:
-        for name, path in (("sm_tool", tool), ("vamuretu", vamuretu)):
-            os.symlink(path, os.path.join(programs, name))
-        build_libraries(os.path.join(programs, "libraries"), source("heap.c"), {it: node_program.archive_of(TOP, it) for it in node_program.ARCHIVES})
+    with tempfile.TemporaryDirectory(dir="/tmp") as place:
         way = Way(section, place, programs, slower)
         try:
             return way.wrong, *follow(way)
@@ -272,14 +269,22 @@ def go(section, tool, vamuretu, slower):
             way.shell.close()
 
 
-def gone(section, tool, vamuretu, tally):
+def gone(section, programs, tally):
     """Goes a way, and again at a slower pace where the machine was too busy for it. None where it always was."""
     for slower in SLOWER:
         try:
-            return go(section, tool, vamuretu, slower)
+            return go(section, programs, slower)
         except TooBusy as told:
             tally.note(f"{section}: the machine was too busy for periods of {slower} s: {told}")
     return None
+
+
+def fill(programs, tool, vamuretu):
+    """Puts into a folder what the commands of the pages find in the package."""
+    for name, path in (("sm_tool", tool), ("vamuretu", vamuretu)):
+        os.symlink(path, os.path.join(programs, name))
+    archives = {it: node_program.archive_of(TOP, it) for it in node_program.ARCHIVES}
+    build_libraries(os.path.join(programs, "libraries"), source("heap.c"), archives)
 
 
 def trials(program, tally):
@@ -287,8 +292,9 @@ def trials(program, tally):
     if vamuretu is None:
         return
     ways = tally.chosen(WAYS)
-    with concurrent.futures.ThreadPoolExecutor(len(ways)) as pool:
-        for section, told in zip(ways, pool.map(lambda it: gone(it, program, vamuretu, tally), ways)):
+    with tempfile.TemporaryDirectory() as programs, concurrent.futures.ThreadPoolExecutor(len(ways)) as pool:
+        fill(programs, program, vamuretu)
+        for section, told in zip(ways, pool.map(lambda it: gone(it, programs, tally), ways)):
             if told is None:
                 tally.note(f"left out: {section}, since the machine is too busy")
                 continue

@@ -74,7 +74,8 @@ def go_on(program, tally):
         for name, path in (("sm_tool", program), ("vamuretu", nodes)):
             os.symlink(path, os.path.join(folder, name))
         libraries = os.path.join(folder, "libraries")
-        build_libraries(libraries, source("heap.c"), {it: node_program.archive_of(TOP, it) for it in node_program.ARCHIVES})
+        archives = {it: node_program.archive_of(TOP, it) for it in node_program.ARCHIVES}
+        build_libraries(libraries, source("heap.c"), archives)
         follow(tally, folder, os.path.abspath(TOP), libraries)
 
 
