@@ -491,6 +491,13 @@ impl Scheduler {
         }
     }
 
+    /// Has the disk be ready for a run, if the system has it.
+    fn prepare_disk(&mut self, run: u32) {
+        if u64::from(run) < self.shared.systems.runs() {
+            self.keeper.prepare(run, self.shared.systems.set_of(run));
+        }
+    }
+
     /// Begins a run, in a thread of its own. What fails by the disk is said, and the run is missed.
     fn begin(&mut self, run: Run, begins: Instant) -> Result<(), End> {
         let (shared, number) = (self.shared.clone(), run.number);
@@ -534,6 +541,7 @@ impl Scheduler {
         };
         let thread = thread::Builder::new().name(format!("run {number}")).stack_size(STACK).spawn(of_system(play));
         self.under_way.push(thread.map_err(|told| End::unusable("a thread", &told))?);
+        self.prepare_disk(number.saturating_add(1));
         Ok(())
     }
 }
