@@ -43,6 +43,29 @@ def clock(lab):
         await_that(lambda: {it["node"] for it in made.alarms(WATCHER, "down")} == {BROKEN}, "the watcher says who is down")
 
 
+@case("a clock that is wrong from the start, and that nobody doubts: the node says that its clock is wrong, and the others whose frames do not come in time")
+def clocks_apart(lab):
+    for ahead_ms, by_others in ((1000, "too early"), (-4000, "too late")):
+        with lab.system(starts=OTHERS, front={BROKEN: lambda made: made.clock_words(BROKEN)}) as made:
+            made.set_clock(BROKEN, ahead_ms * lab.slower)
+            made.wait_runs(1)
+            made.nodes[BROKEN].start()
+            await_that(lambda: any("so this clock is wrong" in it["why"] for it in made.alarms(BROKEN, "apart")), "the node says that its clock is wrong")
+            others_decide(made, "a clock that is wrong")
+            own = tells(made, ["status", made.nodes[BROKEN].config])["status"]["peers"]
+            wants(all(it["connected"] and it["apart"] for it in own), f"the status of the node says {own}")
+            for node in OTHERS:
+                said = {it["why"] for it in made.alarms(node, "apart")}
+                wants(said and all(f"node {BROKEN} " in it and by_others in it for it in said), f"the alarms of node {node} say {said}")
+                peers = tells(made, ["status", made.nodes[node].config])["status"]["peers"]
+                wants({it["number"] for it in peers if it["apart"]} == {BROKEN}, f"the status of node {node} says {peers}")
+                wants(made.counts(node)[f'vamuretu_apart{{peer="{BROKEN}"}}'] == 1, f"the metrics of node {node} do not say whose frames are apart")
+            made.set_clock(BROKEN, 0)
+            made.nodes[BROKEN].kill()
+            made.nodes[BROKEN].start()
+            await_that(lambda: not any(it["apart"] for node in OTHERS for it in made.status(node)["peers"]), "the clock is right, and the others say so")
+
+
 def on_full_disk(folder):
     """The words in front of a node to which the disk that has a folder says that it is full."""
     return ["strace", "-f", "--seccomp-bpf", "-qq", "-o", "/dev/null", "-P", folder, "-e", "trace=fsync", "--inject=fsync:error=ENOSPC"]
@@ -110,3 +133,34 @@ def pin(lab):
         made.begin([BROKEN], watcher=False)
         made.wait_runs(2)
         made.goes_on(range(4), 3, what="the pin is right")
+
+
+@case("wrong pins at the ends that others connect to: a neighbour, and the watcher, say which key was shown, and the node whose key it is has no connection")
+def pins(lab):
+    with lab.system(starts=(), watcher=False) as made:
+        stranger = run(made.program, ["key", made.path("stranger.key")]).wrote.decode().strip()
+        for name in ("0.toml", "watch.toml"):
+            made.edit(name, made.pins[f"node-{BROKEN}"], stranger)
+        made.begin(range(4))
+        for number in (0, WATCHER):
+            await_that(lambda number=number: lines_of(made, number, "a connection was refused"), "a line says that a connection was refused")
+            told = lines_of(made, number, "a connection was refused")[0]
+            wants(made.pins[f"node-{BROKEN}"] in told["told"], f"the line says {told}")
+        for node, other in ((0, BROKEN), (BROKEN, 0)):
+            away = lambda node=node: {it["number"] for it in tells(made, ["status", made.nodes[node].config])["status"]["peers"] if not it["connected"]}
+            await_that(lambda away=away, other=other: away() == {other}, f"the status of node {node} names node {other}")
+        others_decide(made, "a wrong pin")
+        await_that(lambda: lines_of(made, BROKEN, "no watcher"), "the node says that it has no watcher")
+        await_that(lambda: {it["node"] for it in made.alarms(WATCHER, "absent")} == {BROKEN}, "the watcher names who is absent")
+
+
+@case("a disk that is full below the watcher: a line and an alarm name the cause, and no decision waits for it", needs=("strace",))
+def disk_of_watcher(lab):
+    words = ["strace", "-f", "-qq", "-o", "/dev/null", "-e", "trace=rename", "--inject=rename:error=ENOSPC:when=6+"]
+    with lab.system(front={WATCHER: words}) as made:
+        await_that(lambda: lines_of(made, WATCHER, "nothing can be kept"), "the watcher says that nothing can be kept")
+        others_decide(made, "a full disk of the watcher")
+        said = {it["told"] for it in lines_of(made, WATCHER, "nothing can be kept")}
+        wants(all("No space left" in it for it in said), f"the lines of the watcher say {said}")
+        alarms = [it for it in lines_of(made, WATCHER, '"alarm"') if it.get("alarm") == "disk"]
+        wants(alarms and all("No space left" in it["text"] for it in alarms), f"the alarms of the watcher say {alarms}")

@@ -1,12 +1,13 @@
 """Attacks by the clock (attacks.py): the clock of a node or of the watcher is set, its daemon is silent, the process stands still, or a system is over.
 
-steps.c and kernel.c stand between a program and the clock, or what the kernel says of it, by LD_PRELOAD.
+steps.c, kernel.c and ptp.c stand between a program and the clock, or what the kernel says of it, by LD_PRELOAD.
 """
 import contextlib
 import dataclasses
 import json
 import os
 import signal
+import subprocess
 import time
 
 from attack_lab import Fronts, await_that, collected, wants
@@ -176,6 +177,66 @@ def daemons(lab):
             wants("bound_ms" in waits(made, node), f"node {node} waits for {waits(made, node)}")
         silent = [made.counts(node)["vamuretu_clock_silent_seconds"] for node in range(3)]
         wants(silent[0] < 8 and 4000 <= silent[1] < 4300 and silent[2] >= 6000, f"silent for {silent}")
+
+
+# What ptp4l is told: time stamps of software, and that it finds its master, and believes it, soon.
+OF_PTP = ["time_stamping software", "logAnnounceInterval -2", "announceReceiptTimeout 2", "sanity_freq_limit 0", "pi_proportional_const 0.1", "pi_integral_const 0.03"]
+MASTER, SLAVE = "10.9.0.1", "10.9.0.2"
+
+
+@contextlib.contextmanager
+def second_machine():
+    """A network namespace beside this one, with a wire to it. Gives the words in front of what runs there."""
+    with subprocess.Popen(["unshare", "--net", "--", "sleep", "600"]) as process:
+        try:
+            inside = ["nsenter", f"--target={process.pid}", "--net"]
+            own = os.readlink("/proc/self/ns/net")
+            await_that(lambda: os.readlink(f"/proc/{process.pid}/ns/net") != own, "a second namespace")
+            do(["ip", "link", "add", "wire0", "type", "veth", "peer", "name", "wire1", "netns", str(process.pid)])
+            for words, name, address in (([], "wire0", MASTER), (inside, "wire1", SLAVE)):
+                do([*words, "ip", "address", "add", f"{address}/24", "dev", name])
+                do([*words, "ip", "link", "set", name, "up"])
+            yield inside
+        finally:
+            process.kill()
+
+
+@contextlib.contextmanager
+def ptp4l(made, name, more, words=(), **env):
+    """A daemon of PTP at an end of the wire, which may not set the clock of this machine."""
+    lines = ["[global]", f"uds_address {made.path(name)}.uds", *OF_PTP, *more]
+    made.write(f"{name}.cfg", "".join(f"{line}\n" for line in lines).encode())
+    with open(made.path(f"{name}.ptp"), "wb") as said, subprocess.Popen(
+        [*words, "setpriv", "--bounding-set=-sys_time", "ptp4l", "-i", name, "-m", "-f", made.path(f"{name}.cfg")],
+        stdout=said, stderr=said, env={**os.environ, **env},
+    ) as process:
+        try:
+            yield process
+        finally:
+            process.kill()
+
+
+@case("a node under ptp4l with time stamps of software: it makes runs once ptp4l has told the kernel that the clock is right, and says for how long ptp4l is silent", needs=("ptp4l", "setpriv", "ip", "nsenter"), alone=True)
+def ptp(lab):
+    def words(made):
+        do(["cc", "-shared", "-fPIC", "-O2", os.path.join(TOP, "trials", "ptp.c"), "-o", made.path("ptp.so")])
+        made.edit(f"{STEPPED}.toml", 'source = "assumed"', 'source = "kernel"')
+        return ["env", f"LD_PRELOAD={made.path('ptp.so')}", f"PTP_TOLD={made.path('ptp.told')}"]
+
+    with lab.system(front={STEPPED: words}, watcher=False, period=1000) as made, second_machine() as inside:
+        await_waits(made, STEPPED, "not synchronised")
+        told = {"LD_PRELOAD": made.path("ptp.so"), "PTP_TOLD": made.path("ptp.told")}
+        with ptp4l(made, "wire1", ["free_running 1", "masterOnly 1"], inside):
+            with ptp4l(made, "wire0", ["slaveOnly 1"], **told):
+                await_that(lambda: not waits(made, STEPPED), f"the node begins runs under ptp4l, and does not wait for {waits(made, STEPPED)}")
+                goes_on(made, 4, "under ptp4l")
+                counts = made.counts(STEPPED)
+                known = counts["vamuretu_clock_silent_seconds"], counts["vamuretu_clock_error_seconds"]
+                wants(known[0] < 4 and known[1] < 0.001, f"under ptp4l: silent for {known[0]} s, and wrong by {known[1]} s at most")
+        time.sleep(5)
+        goes_on(made, 2, "behind ptp4l")
+        silent = made.counts(STEPPED)["vamuretu_clock_silent_seconds"]
+        wants(silent >= 5, f"ptp4l has ended, and is silent for {silent} s")
 
 
 def second_system(lab, made):

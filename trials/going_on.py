@@ -1,4 +1,4 @@
-"""A system that goes on, as docs/SYSTEM.md sets it up: each command there prints what stands there, in one shell."""
+"""A system that goes on, as docs/SYSTEM.md sets it up, with a device that obeys it: each command there prints what stands there, in one shell."""
 import contextlib
 import os
 import random
@@ -7,12 +7,15 @@ import signal
 import subprocess
 import tempfile
 import threading
+import time
 
 from walk import shown
 
 DOCUMENT, SECTION = "SYSTEM.md", "A system that goes on"
-# Where the package has its documents, and how each port of the examples begins.
-INSTALLED, PORTS = "/usr/share/doc/vamuretu", ":47"
+# Where the package has its documents and its libraries, and how each port of the examples begins.
+INSTALLED, LIBRARIES, PORTS = "/usr/share/doc/vamuretu", "VAMURETU_LIBRARIES=/usr/lib", ":47"
+# What a new user has for this way, in seconds.
+MOST_SECONDS = 15 * 60
 # What nobody waits for longer, in seconds.
 PATIENCE = 300
 END = "the command has ended"
@@ -21,11 +24,11 @@ END = "the command has ended"
 class Shell:
     """A shell that does one command after another, as a person types them. With it all ends that it has started."""
 
-    def __init__(self, place, programs):
+    def __init__(self, place, programs, patience=PATIENCE):
         env = {**os.environ, "PATH": programs + os.pathsep + os.environ.get("PATH", os.defpath)}
         how = {"stdin": subprocess.PIPE, "stdout": subprocess.PIPE, "stderr": subprocess.STDOUT, "start_new_session": True}
         self.started = subprocess.Popen(["/bin/sh"], cwd=place, env=env, text=True, **how)
-        self.timer = threading.Timer(PATIENCE, self.kill)
+        self.timer = threading.Timer(patience, self.kill)
         self.timer.start()
 
     def does(self, command):
@@ -62,18 +65,26 @@ def move_ports(place, block):
             file.write(text)
 
 
-def follow(tally, programs, documents):
-    """Goes the way with the programs of a folder, and these documents in the place of those that the package has."""
-    rows, block = shown(DOCUMENT, SECTION), random.randrange(164, 327)
+def moved(command, documents, libraries):
+    """A command with these documents and libraries in the place of those that the package has."""
+    return command.replace(LIBRARIES, f"VAMURETU_LIBRARIES={libraries}").replace(INSTALLED, documents)
+
+
+def follow(tally, programs, documents, libraries):
+    """Goes the way with the programs of a folder, and these documents and libraries in the place of those that the package has."""
+    rows, block, since = shown(DOCUMENT, SECTION), random.randrange(164, 327), time.monotonic()
     # A socket's address is short, so the folder has to be.
     with tempfile.TemporaryDirectory(dir="/tmp") as place:
         shell = Shell(place, programs)
         try:
             for command, wanted in rows:
-                got = shell.does(command.replace(INSTALLED, documents))
+                got = shell.does(moved(command, documents, libraries))
                 if INSTALLED in command:
                     move_ports(place, block)
                 tally.hold(f"{DOCUMENT}, {command}", None if got == wanted else f"{got!r}; it shows: {wanted!r}")
         finally:
             shell.close()
+    took = time.monotonic() - since
+    tally.hold(f"{DOCUMENT}, its time", None if took < MOST_SECONDS else f"it takes {took:.0f} s")
+    tally.note(f"from the files of the package to a device that obeys: {took:.0f} s")
     tally.count(len(rows))

@@ -481,7 +481,7 @@ def try_package(top, place, tally):
     scripts = [it for it in ("postinst", "prerm", "postrm") if run("sh", ["-n", os.path.join(place, "control", it)]).status]
     tally.hold("its scripts", f"sh does not read {scripts}" if scripts else None)
     try_units(root, place, tally)
-    follow(tally, os.path.join(root, "usr", "bin"), os.path.join(root, "usr", "share", "doc", "vamuretu"))
+    follow(tally, os.path.join(root, "usr", "bin"), os.path.join(root, "usr", "share", "doc", "vamuretu"), os.path.join(root, "usr", "lib"))
 
 
 def try_installed(tree, place, tally):

@@ -5,7 +5,7 @@
     trials/run.py PROGRAM SUBJECT:CASE
 
 The subjects are the modules that README.md lists; `libraries` stands for those that want the libraries for C, and `program` for
-all others, but for `life`, which is tried where it is named. N subjects go side by side, each in a process of its own, by default half as many as there are processors; those that
+all others. N subjects go side by side, each in a process of its own, by default half as many as there are processors; those that
 want the machine for themselves go behind all others, one by one. Of a subject with parts or cases one alone is tried by its name:
 a wrong name tells them. Each subject has a line with its seconds, and of several subjects one more line names the slowest. The last
 line is `N passed, M failed`; the status is 1 where something failed.
@@ -28,11 +28,9 @@ from tally import NoCase, Tally
 SUBJECTS = ["scripts", "worked", "walk", "campaigns", "pictures", "prefixes", "vectors", "second_answers", "identities", "signatures", "differs"]
 SUBJECTS += ["json_texts", "costs", "refusals", "slips", "calls", "devices", "many_files", "load", "engines", "worlds", "named", "valued", "embed"]
 SUBJECTS += ["nodes", "node_calls", "system_calls", "receipts", "obeying", "datagrams", "shown", "power", "system", "complete"]
-SUBJECTS += ["bindings", "watching", "archives", "fuzzing", "controllers", "handed_out", "soaking", "attacks", "units", "page", "arm", "release"]
+SUBJECTS += ["bindings", "watching", "archives", "fuzzing", "controllers", "handed_out", "soaking", "attacks", "units", "life", "page", "arm", "release"]
 LIBRARIES = ["worlds", "embed", "nodes", "node_calls", "system_calls", "receipts", "obeying", "datagrams", "shown", "power", "system", "complete"]
-LIBRARIES += ["bindings", "watching", "archives", "fuzzing", "controllers", "handed_out", "soaking", "attacks", "units", "page", "arm", "release"]
-# Subjects that are tried where they are named alone: on a busy machine the systems of `life` lose runs, which its page shows none of.
-NAMED_SUBJECTS = ["life"]
+LIBRARIES += ["bindings", "watching", "archives", "fuzzing", "controllers", "handed_out", "soaking", "attacks", "units", "life", "page", "arm", "release"]
 # What no other subject may go beside, and why: rounds of processes are parted by the clock, the most memory that there is, ports
 # that are no free ones, and times that are compared or bounded.
 ALONE = {
@@ -106,7 +104,7 @@ def words_of():
     reader.add_argument("subjects", nargs="*")
     words = reader.parse_intermixed_args()
     named, cases = zip(*(it.partition(":")[::2] for it in words.subjects)) if words.subjects else ((), ())
-    if not set(named) <= {*SUBJECTS, *NAMED_SUBJECTS, *GROUPS} or words.beside < 1 or (any(cases) and len(named) > 1):
+    if not set(named) <= {*SUBJECTS, *GROUPS} or words.beside < 1 or (any(cases) and len(named) > 1):
         sys.exit(__doc__)
     subjects = [subject for word in named for subject in GROUPS.get(word, [word])] or SUBJECTS
     return words.program, words.beside, words.here, subjects, (cases or ("",))[0] or None

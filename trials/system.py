@@ -20,8 +20,10 @@ import sys
 import tempfile
 from typing import NamedTuple
 
-from cargo_built import build_program
+from bindings import build_libraries
+from cargo_built import build_program, node_program
 from datagrams import free_addresses
+from embed import source
 from going_on import INSTALLED, SECTION, follow
 from processes import ARCHIVE, MOST_TRIES
 from programs import commands_of
@@ -80,7 +82,7 @@ def ends(given, factor):
 def go_on(given, tally):
     """The system that goes on, by the programs of the package, or by those of the checkout."""
     if given == OF_PACKAGE:
-        follow(tally, os.path.dirname(given.program), given.documents)
+        follow(tally, os.path.dirname(given.program), given.documents, os.path.dirname(given.archive))
         return
     nodes = build_program(tally) if given.program != "reference" else None
     if nodes is None:
@@ -88,7 +90,10 @@ def go_on(given, tally):
     with tempfile.TemporaryDirectory() as folder:
         for name, path in (("sm_tool", given.program), ("vamuretu", nodes)):
             os.symlink(path, os.path.join(folder, name))
-        follow(tally, folder, given.documents)
+        libraries = os.path.join(folder, "libraries")
+        archives = {it: node_program.archive_of(TOP, it) for it in node_program.ARCHIVES}
+        build_libraries(libraries, source("heap.c"), archives)
+        follow(tally, folder, given.documents, libraries)
 
 
 def trials(program, tally):

@@ -15,6 +15,7 @@ use std::time::{Duration, Instant};
 use tokio::net::{TcpListener, TcpStream};
 use tokio::sync::oneshot;
 use tokio_rustls::TlsAcceptor;
+use tracing::Instrument;
 
 use crate::config::Id;
 use crate::frames::{self, Greeting, Hello, Stream, Transport};
@@ -231,7 +232,8 @@ impl Door {
                     let from = SocketAddr::new(from.ip().to_canonical(), from.port());
                     let is_configured = addresses.contains(&from.ip());
                     let place = self.unknown(is_configured).silent.take(from.ip());
-                    tokio::spawn(self.clone().meet(stream, from, is_configured, place, serve.clone()));
+                    let meeting = self.clone().meet(stream, from, is_configured, place, serve.clone());
+                    tokio::spawn(meeting.in_current_span());
                     // A connection whose place it has is closed before the next one is taken.
                     tokio::task::yield_now().await;
                 }

@@ -261,7 +261,7 @@ fn write(text: &str) -> Result<(), End> {
 /// Has events be said on standard error, a JSON object each. A process that goes on has a thread that says them. Other commands
 /// say what is wrong alone.
 fn say_events(command: &Command) -> Result<Option<lines::Lines>, End> {
-    let events = tracing_subscriber::fmt().json().flatten_event(true);
+    let events = tracing_subscriber::fmt().json().flatten_event(true).with_span_list(false);
     if !goes_on(command) {
         events.with_max_level(tracing::Level::WARN).with_writer(io::stderr).init();
         return Ok(None);

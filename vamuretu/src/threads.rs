@@ -5,8 +5,16 @@ use std::sync::mpsc::{sync_channel, Receiver};
 use std::sync::Mutex;
 use std::thread;
 
+use tracing::Span;
+
 /// How many results wait until they are taken.
 const MOST_WAITING: usize = 64;
+
+/// What a thread does whose lines are to say of which system they are, as those of who starts it do.
+pub fn of_system<T>(act: impl FnOnce() -> T) -> impl FnOnce() -> T {
+    let span = Span::current();
+    move || span.in_scope(act)
+}
 
 /// Does something for each of several values, by a thread for each core that takes the next one, and hands over what becomes of
 /// them, in the order in which it comes, with the places of the values. An act that panics is an error. If nobody takes any more,

@@ -26,6 +26,10 @@ const TURNED: &str = "SELECT NULL AS number, path, turn, sha256, said, library F
         WHERE runs.source = 'watcher' AND runs.number IN (SELECT number FROM changes)
     ORDER BY 1, 2, 3";
 
+/// The runs whose logs wait in the index of a watcher, and that were not judged by others. Logs that come later wait too.
+const WAITING: &str = "SELECT DISTINCT number FROM waiting
+    WHERE number NOT IN (SELECT number FROM runs WHERE number IS NOT NULL AND verdict <> 'gap')";
+
 /// What stands above convictions in runs that have no number.
 pub const NUMBERLESS: &str =
     "No admission shows these runs: the number of a general says nothing of another run, and anybody \
@@ -34,8 +38,10 @@ pub const NUMBERLESS: &str =
 /// What an index can be asked.
 #[derive(Debug, Clone, Copy, PartialEq, Eq, clap::ValueEnum)]
 pub enum Question {
-    /// Numbers of runs without a file
+    /// Numbers of runs without a file, but for those that `waiting` tells
     Gaps,
+    /// Runs of a watcher whose logs came, and wait to be judged
+    Waiting,
     /// Nodes that signatures convict
     Convictions,
     /// Runs of which there are several files
@@ -167,6 +173,12 @@ impl Found {
     pub fn count(&self) -> u32 {
         let further = self.number.zip(self.last).map_or(0, |(number, last)| last - number);
         further + 1
+    }
+
+    /// The numbers of the runs that it is of, if they have some.
+    pub fn numbers(&self) -> impl Iterator<Item = u32> {
+        let count = self.count();
+        self.number.into_iter().flat_map(move |number| number..=number.saturating_add(count - 1))
     }
 
     /// Whether it convicts a general of a run that has no number.
@@ -357,6 +369,7 @@ impl Reader {
     pub fn ask(&self, question: Question, range: Range) -> Result<Vec<Found>, End> {
         match question {
             Question::Gaps => self.gaps(range),
+            Question::Waiting => self.waiting(range),
             Question::Convictions => self.convictions(),
             Question::Doubles => self.doubles(),
             Question::Unknown => self.unknown(),
@@ -383,17 +396,33 @@ impl Reader {
         Ok(bounds.filter(|(first, last)| first <= last))
     }
 
+    /// The numbers of runs that an order asks for.
+    fn numbers(&self, order: &str) -> Result<BTreeSet<u32>, End> {
+        Ok(self.rows(order, |row| row.get(0))?.into_iter().collect())
+    }
+
+    /// The runs whose logs came to a watcher, and were not judged.
+    fn waiting(&self, range: Range) -> Result<Vec<Found>, End> {
+        let (first, last) = (range.first.unwrap_or(0), range.last.unwrap_or(u32::MAX));
+        let mut waiting = Gaps::default();
+        for number in self.numbers(WAITING)?.into_iter().filter(|number| (first..=last).contains(number)) {
+            waiting.put(number, number, "logs wait to be judged");
+        }
+        Ok(waiting.0)
+    }
+
     fn gaps(&self, range: Range) -> Result<Vec<Found>, End> {
         let Some((first, last)) = self.bounds(range)? else {
             return Err(End::failed("no run has a number here: name the system and its admissions"));
         };
-        let numbers = |order| Ok::<BTreeSet<u32>, End>(self.rows(order, |row| row.get(0))?.into_iter().collect());
-        let admitted = numbers("SELECT number FROM admitted")?;
-        let of_watcher = numbers("SELECT number FROM runs WHERE verdict = 'gap' AND number IS NOT NULL")?;
-        let there = numbers(
+        let admitted = self.numbers("SELECT number FROM admitted")?;
+        let of_watcher = self.numbers("SELECT number FROM runs WHERE verdict = 'gap' AND number IS NOT NULL")?;
+        let mut there = self.numbers(
             "SELECT runs.number FROM runs LEFT JOIN files ON files.path = runs.path
              WHERE NOT coalesce(gone, 0) AND runs.number IS NOT NULL AND verdict <> 'gap'",
         )?;
+        // A log came of these, so they are no gaps: the watcher waits for those of other nodes.
+        there.extend(self.numbers(WAITING)?);
         let said = |number: &u32| match () {
             () if of_watcher.contains(number) => "no log came",
             () if !admitted.is_empty() && !admitted.contains(number) => "no file that can be judged, and no admission",
@@ -542,7 +571,7 @@ impl Reader {
     }
 }
 
-/// Runs that are missing, in ranges.
+/// Runs of which one thing is said, in ranges.
 #[derive(Default)]
 struct Gaps(Vec<Found>);
 
@@ -643,6 +672,26 @@ mod tests {
         Connection::open(&path).and_then(|index| index.execute_batch(&rows)).expect("an index");
         let reader = Reader::open(&path).expect("an index");
         assert_eq!(lines(&reader, Question::Gaps, Range::default()), ["run 8: no log came"]);
+        assert!(lines(&reader, Question::Waiting, Range::default()).is_empty());
+        // Logs of runs 7, 9, 10 and 12 wait, and run 13 is judged.
+        let waits = format!(
+            "INSERT INTO runs SELECT 3, source, 13, run_id, nodes, generals, traitors, verdict, decided, assumed_faulty, others,
+            missing, suspected, findings, equal_roots, '0/13.bundle.zst', place, library, judged FROM runs WHERE number = 7;
+            INSERT INTO waiting SELECT column1, 2, '{file}', x'00' FROM (VALUES (7), (9), (10), (12));"
+        );
+        Connection::open(&path).and_then(|index| index.execute_batch(&waits)).expect("an index");
+        let reader = Reader::open(&path).expect("an index");
+        let gaps = ["run 8: no log came", "run 11: no file that can be judged"];
+        assert_eq!(lines(&reader, Question::Gaps, Range::default()), gaps);
+        let waiting = ["runs 9 to 10: logs wait to be judged", "run 12: logs wait to be judged"];
+        assert_eq!(lines(&reader, Question::Waiting, Range::default()), waiting);
+        assert_eq!(
+            lines(&reader, Question::Waiting, Range { first: Some(10), last: Some(11) }),
+            ["run 10: logs wait to be judged"]
+        );
+        let back = "DELETE FROM waiting; DELETE FROM runs WHERE number = 13;";
+        Connection::open(&path).and_then(|index| index.execute_batch(back)).expect("an index");
+        let reader = Reader::open(&path).expect("an index");
         let convicted = ["run 7: node 1 is convicted by K1: 0/7.bundle.zst"];
         assert_eq!(lines(&reader, Question::Convictions, Range::default()), convicted);
         assert_eq!(reader.ask(Question::Convictions, Range::default()).expect("an answer")[0].general, Some(2));

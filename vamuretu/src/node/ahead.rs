@@ -6,7 +6,9 @@ use std::thread;
 use std::time::{Duration, Instant};
 
 use super::Shared;
+use crate::clock;
 use crate::systems::{Run, Systems};
+use crate::threads::of_system;
 use crate::End;
 
 /// No run that was made is kept that is further ahead than so many.
@@ -88,6 +90,9 @@ fn work(shared: &Shared) {
         let number = shared.ahead.wanted(&shared.systems);
         let made = shared.systems.run(number);
         let failed = made.as_ref().err().map(|end| end.line.clone());
+        if let Ok(run) = &made {
+            shared.apart.begins(run.run_id, clock::beginning(number, &shared.file.clock));
+        }
         shared.ahead.put(number, made);
         let Some(told) = failed else { continue };
         if said.as_ref().map_or(true, |(line, at)| *line != told || at.elapsed() >= SAID_AGAIN) {
@@ -101,6 +106,6 @@ fn work(shared: &Shared) {
 /// Starts the thread.
 pub fn start(shared: &Arc<Shared>) -> Result<(), End> {
     let shared = shared.clone();
-    let started = thread::Builder::new().name("runs to come".into()).spawn(move || work(&shared));
+    let started = thread::Builder::new().name("runs to come".into()).spawn(of_system(move || work(&shared)));
     started.map(drop).map_err(|told| End::unusable("a thread", &told))
 }

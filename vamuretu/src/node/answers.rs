@@ -279,6 +279,8 @@ pub struct Peer {
     pub number: u32,
     /// Whether it is connected.
     pub connected: bool,
+    /// How its frames come in run after run, for people, where they do not count by the clock here: its clock or this one is wrong.
+    pub apart: Option<String>,
 }
 
 /// What a node hands out to devices.
@@ -416,7 +418,7 @@ mod tests {
                 ahead_ms: 0,
                 steps: 0,
             },
-            peers: vec![Peer { number: 0, connected: true }],
+            peers: vec![Peer { number: 0, connected: true, apart: waits_for.map(str::to_owned) }],
             devices: waits_for.map(|_| Devices { connected: 1, shown: 2, unshown: 0 }),
             spool: Spool { logs: 1, bytes: 1, waiting: 1, refused: 0, unstored: 0, stuck: vec![stuck] },
             next: None,

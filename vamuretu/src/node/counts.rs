@@ -29,6 +29,7 @@ pub struct Counts {
     pub unshown: IntCounter,
     pub devices: IntGauge,
     pub connected: IntGaugeVec,
+    pub apart: IntGaugeVec,
     pub under_way: IntGauge,
     pub newest: IntGauge,
     pub sets_left: IntGauge,
@@ -132,6 +133,11 @@ impl Counts {
             unshown: make.counter("decisions_unshown_total", "Runs of which no decision was shown in time."),
             devices: make.gauge("devices_connected", "Devices that are connected."),
             connected: make.gauges("connected", "1 while the neighbour is connected.", "peer"),
+            apart: make.gauges(
+                "apart",
+                "1 while frames of the neighbour do not come in time by this clock, in run after run.",
+                "peer",
+            ),
             under_way: make.gauge("runs_under_way", "Runs that are under way."),
             newest: make.gauge("newest_run", "The number of the newest run that was begun, or -1."),
             sets_left: make.gauge("sets_left", "Sets of keys behind the newest run."),
@@ -182,7 +188,7 @@ mod tests {
         [&counts.dropped, &counts.barred, &counts.receipts_refused]
             .iter()
             .for_each(|of| of.with_label_values(&["0"]).inc());
-        counts.connected.with_label_values(&["0"]).set(1);
+        [&counts.connected, &counts.apart].iter().for_each(|of| of.with_label_values(&["0"]).set(1));
         crate::metrics::tests::on_the_page("### Metrics of a node", &counts.registry);
     }
 }

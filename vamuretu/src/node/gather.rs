@@ -16,6 +16,7 @@ use super::spool::Kept;
 use super::Shared;
 use crate::doors::Seldom;
 use crate::systems::Run;
+use crate::threads::of_system;
 use crate::End;
 
 /// The most bytes of a receipt: those of 16 nodes and 120 edges in version 2.
@@ -358,7 +359,7 @@ pub fn start(shared: &Arc<Shared>) -> Result<(), End> {
     }
     let shared = shared.clone();
     let looking = move || shared.gather.iter().for_each(|gather| work(&shared, gather));
-    let started = thread::Builder::new().name("receipts".into()).spawn(looking);
+    let started = thread::Builder::new().name("receipts".into()).spawn(of_system(looking));
     started.map(drop).map_err(|told| End::unusable("a thread", &told))
 }
 

@@ -158,13 +158,14 @@ impl Inboxes {
         self.all().remove(&inbox.run_id());
     }
 
-    /// Hands a frame that came from a node to the run whose id its head has.
-    pub fn offer(&self, from: u32, frame: Vec<u8>) -> Result<(), Refused> {
+    /// Hands a frame that came from a node to the run whose id its head has. The head is looked at before.
+    pub fn offer(&self, from: u32, frame: Vec<u8>, look: impl FnOnce(&FrameHead)) -> Result<(), Refused> {
         let head = match FrameHead::read(&frame) {
             Ok(head) => head,
             Err(Fault::Node(fault)) => return Err(Refused::Fault(fault)),
             Err(_) => return Err(Refused::Fault(NodeFault::F3)),
         };
+        look(&head);
         let inbox = self.all().get(&head.run_id).cloned().ok_or(Refused::Fault(NodeFault::F6))?;
         inbox.offer(from, &head, frame)
     }

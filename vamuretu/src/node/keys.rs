@@ -3,8 +3,9 @@
 //! The state is the record of 68 bytes of the set whose runs are being made. The mark is a text beside it, with the number of
 //! the newest run that may have signed. No run at or below the mark begins again. Where runs begin more often than each second,
 //! the mark on the disk is that of the last run of a block, all of whose runs are of the state's set: one write serves them. So
-//! after a crash the rest of the block is left out, and the next run may be of the same set. A node that ends by itself puts
-//! back the newest run that it began. Nobody else may use the state: `KeptState` of the packages hands the seed of its set out
+//! after a crash the rest of the block is left out, and the next run may be of the same set. Where a block is one run, the mark of
+//! the next run is stored when one has begun, so that the disk has a period for it. A node that ends by itself puts back the newest
+//! run that it began. Nobody else may use the state: `KeptState` of the packages hands the seed of its set out
 //! again. A node has the folders of both files for itself.
 
 use std::fs::{self, File};
@@ -144,6 +145,23 @@ impl Keeper {
         self.keys.as_mut().map(|(_, keys)| keys).ok_or_else(|| End::failed("no keys"))
     }
 
+    /// Has the disk have the mark and the state of the run behind the newest, long before that begins, so that a slow disk does not
+    /// take it away. Where one write serves several runs there is no time for this. What fails is tried again at the beginning.
+    pub fn prepare(&mut self, run: u32, set: Set) {
+        let is_next = self.newest.and_then(|newest| newest.checked_add(1)) == Some(run);
+        let are_files = || [&self.state_path, &self.mark_path].into_iter().all(|path| disk::refuse_links(path).is_ok());
+        if self.block > 1 || !is_next || !are_files() {
+            return;
+        }
+        let stored = self.store_state(set.number).and_then(|()| match self.stored {
+            Some(stored) if stored >= run => Ok(()),
+            _ => self.store_mark(run),
+        });
+        if let Err(told) = stored {
+            tracing::debug!(run, %told, "the disk has not the mark yet");
+        }
+    }
+
     /// Has the disk have the state of a set.
     fn store_state(&mut self, set: u32) -> Result<(), End> {
         if set != self.state.number() {
@@ -252,6 +270,34 @@ mod tests {
         drop(keeper);
         drop(open(&here).end());
         assert_eq!(stored(&here), 11, "who has begun nothing puts nothing back");
+        fs::remove_dir_all(&here).expect("taken away");
+    }
+
+    #[test]
+    fn the_disk_is_ready_before_a_run_begins() {
+        let (here, set) = (folder("ready"), |run: u32| Set { number: run / 4, last: run / 4 * 4 + 3 });
+        let open_with = |block| Keeper::of(here.join("state"), here.join("mark"), SYSTEM, block).expect("a state");
+        let (mut keeper, obstacle) = (open_with(1), here.join("mark.new"));
+        keeper.prepare(0, set(0));
+        assert!(begins(&mut keeper, 7));
+        keeper.prepare(9, set(9));
+        assert_eq!((stored(&here), keeper.state.number()), (7, 1), "no run but the next one");
+        keeper.prepare(8, set(8));
+        assert_eq!((stored(&here), keeper.state.number(), keeper.newest()), (8, 2, Some(7)));
+        fs::create_dir(&obstacle).expect("what no mark can be written to");
+        assert!(begins(&mut keeper, 8));
+        keeper.prepare(9, set(9));
+        assert!(!begins(&mut keeper, 9) && stored(&here) == 8);
+        fs::remove_dir(&obstacle).expect("taken away");
+        assert!(begins(&mut keeper, 10));
+        keeper.prepare(11, set(11));
+        assert_eq!(stored(&here), 11);
+        drop(keeper.end());
+        assert_eq!(stored(&here), 10, "who ends by itself leaves out none");
+        let mut keeper = open_with(4);
+        assert!(begins(&mut keeper, 12));
+        keeper.prepare(13, set(13));
+        assert_eq!(stored(&here), 15, "one write serves a block");
         fs::remove_dir_all(&here).expect("taken away");
     }
 

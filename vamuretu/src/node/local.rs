@@ -292,6 +292,7 @@ impl Client {
             Ok(Request::Decisions { from, system }) => self.listen(from, system.as_deref()),
             Ok(Request::Status {}) => Line::Status { status: status_of_all(&self.nodes).into() },
             Ok(Request::Drain {}) => {
+                tracing::info!("told to end");
                 self.nodes.drain();
                 Line::Draining { draining: true }
             }
@@ -414,7 +415,8 @@ fn status(shared: &Shared) -> Status {
     let peers = shared.links.all().map(|link| {
         let number = link.peer.number;
         let connected = counts.connected.with_label_values(&[&number.to_string()]).get() > 0;
-        answers::Peer { number, connected }
+        let apart = shared.apart.of(number).map(|it| format!("its frames {it}"));
+        answers::Peer { number, connected, apart }
     });
     Status {
         node: shared.file.node.number,

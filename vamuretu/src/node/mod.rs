@@ -2,6 +2,7 @@
 
 mod ahead;
 mod answers;
+mod apart;
 pub mod counts;
 mod devices;
 mod gather;
@@ -31,9 +32,11 @@ use tokio::net::TcpListener;
 use tokio::runtime::{Builder, Runtime};
 use tokio::signal::unix::{signal, SignalKind};
 use tokio::sync::broadcast;
-use vamuretu::{NextRun, Node, NodeFault};
+use tracing::{Instrument, Span};
+use vamuretu::{FrameHead, NextRun, Node, NodeFault};
 
 use self::ahead::Ahead;
+use self::apart::{Apart, Bounds};
 use self::counts::Counts;
 use self::gather::{Gather, Opened};
 use self::inbox::{Inbox, Inboxes};
@@ -46,10 +49,11 @@ use self::telling::{Source, Telling};
 use self::vote::Votes;
 use self::waits::{Passing, Waits};
 use crate::clock::{self, Guard, Look};
-use crate::config::NodeFile;
+use crate::config::{Clock, NodeFile};
 use crate::doors::Door;
 use crate::frames::Transport;
 use crate::systems::{Run, Systems};
+use crate::threads::of_system;
 use crate::{descriptors, metrics, End};
 
 /// How long the longest sleep is between two looks at the clock.
@@ -122,6 +126,17 @@ fn run_to_propose_in(asked: Option<u32>, next: u32, runs: u64, is_own: impl Fn(u
     }
 }
 
+/// How long before its beginning a run is open at the latest, in milliseconds: frames of neighbours whose clocks are ahead
+/// find it.
+fn least_lead_ms(clock: &Clock) -> i64 {
+    2 * i64::from(clock.bound_ms)
+}
+
+/// How long before its beginning a run is opened, in milliseconds. What is more than the least is for a machine that is late.
+fn lead_ms(clock: &Clock) -> i64 {
+    i64::from(clock.period_ms / 2).clamp(LEAST_LEAD_MS, MOST_LEAD_MS) + least_lead_ms(clock)
+}
+
 /// The lines of decisions, for all applications.
 type Decisions = broadcast::Sender<Arc<str>>;
 
@@ -133,6 +148,8 @@ pub struct Shared {
     pub counts: Counts,
     pub links: Links,
     pub inboxes: Inboxes,
+    /// Whose clock is wrong, by when frames come.
+    pub apart: Apart,
     pub spool: Spool,
     pub longest_frame: usize,
     proposals: Mutex<Proposals>,
@@ -166,6 +183,12 @@ impl Shared {
             counts,
             links,
             inboxes: Inboxes::default(),
+            apart: Apart::new(Bounds {
+                early_ms: lead_ms(&file.clock),
+                late_ms: i64::from(file.clock.round_ms) + least_lead_ms(&file.clock),
+                period: file.clock.period(),
+                traitors: first.traitors,
+            }),
             longest_frame,
             proposals: Mutex::new(Proposals { newest: next.checked_sub(1), orders: BTreeMap::new() }),
             telling: Telling::new(file.system.id, decisions.clone()),
@@ -183,6 +206,17 @@ impl Shared {
         let (sets, slots) = (self.systems.runs() / self.systems.slots(), self.systems.slots());
         let used = newest.map_or(0, |run| 1 + u64::from(run) / slots);
         self.counts.sets_left.set(sets.saturating_sub(used) as i64);
+    }
+
+    /// Compares when a frame of a neighbour comes with the clock, by which this node has begun a run.
+    pub fn compare_clocks(&self, node: u32, head: &FrameHead) {
+        if self.waits_for().is_some() || self.counts.newest.get() < 0 {
+            return;
+        }
+        if let Some(why) = self.apart.note(node, head, clock::now_ms(), Instant::now()) {
+            tracing::error!(alarm = "apart", %why, "frames do not come in time");
+        }
+        self.counts.apart.with_label_values(&[&node.to_string()]).set(self.apart.of(node).is_some().into());
     }
 
     /// Counts a frame that was refused.
@@ -257,15 +291,12 @@ impl Shared {
         self.proposals.lock().unwrap_or_else(|told| told.into_inner())
     }
 
-    /// How long before its beginning a run is open at the latest, in milliseconds: frames of neighbours whose clocks are ahead
-    /// find it.
     fn least_lead_ms(&self) -> i64 {
-        2 * i64::from(self.file.clock.bound_ms)
+        least_lead_ms(&self.file.clock)
     }
 
-    /// How long before its beginning a run is opened, in milliseconds. What is more than the least is for a machine that is late.
     fn lead_ms(&self) -> i64 {
-        i64::from(self.file.clock.period_ms / 2).clamp(LEAST_LEAD_MS, MOST_LEAD_MS) + self.least_lead_ms()
+        lead_ms(&self.file.clock)
     }
 
     /// The next run at a time that is above a mark, and can still be opened.
@@ -348,6 +379,9 @@ struct Scheduler {
     keeper: Keeper,
     passing: Passing,
     life: life::Told,
+    /// When the clock was looked at last, and how long the disk took for the mark and the state of the last run.
+    looked: Instant,
+    disk: Duration,
     /// The run that begins next, whose header is made while there is time.
     prepared: Option<Run>,
     under_way: Vec<JoinHandle<()>>,
@@ -375,13 +409,23 @@ impl Scheduler {
             let opens_ms = now_ms.saturating_add(shared.least_lead_ms());
             let missed = self.passing.pass(opens_ms, self.keeper.newest(), shared.systems.runs(), &shared.file.clock);
             shared.counts.missed.inc_by(missed.into());
+            self.tell_passed(missed);
             shared.lose_below(self.passing.next(), PASSED);
             shared.gather.iter().for_each(|gather| gather.pass(self.passing.next()));
             shared.pass_votes(self.passing.next());
         }
         let all = shared.counts.missed.get();
         if let Some(runs) = self.passing.alarm(all, Instant::now()) {
-            tracing::error!(alarm = "missed", runs, all, "runs did not begin");
+            tracing::error!(alarm = "missed", runs, all, next = self.passing.next(), "runs did not begin");
+        }
+    }
+
+    /// Says which runs have passed since the last look, when that was, and how long the disk took for the run before them.
+    fn tell_passed(&self, missed: u32) {
+        if let Some(last) = self.passing.next().checked_sub(1).filter(|_| missed > 0) {
+            let (first, looked_ms) = (last - (missed - 1), self.looked.elapsed().as_millis());
+            let (disk_ms, waits_for) = (self.disk.as_millis(), self.shared.waits_for().map(|it| it.to_string()));
+            tracing::warn!(first, last, looked_ms, disk_ms, waits_for, "runs have passed");
         }
     }
 
@@ -393,6 +437,7 @@ impl Scheduler {
             self.shared.counts.under_way.set(self.under_way.len() as i64);
             let look = self.look();
             self.count_missed(&look);
+            self.looked = look.at;
             let wait = match look.wrong {
                 None => self.begin_if_due(&look)?,
                 Some(wrong) => {
@@ -446,6 +491,13 @@ impl Scheduler {
         }
     }
 
+    /// Has the disk be ready for a run, if the system has it.
+    fn prepare_disk(&mut self, run: u32) {
+        if u64::from(run) < self.shared.systems.runs() {
+            self.keeper.prepare(run, self.shared.systems.set_of(run));
+        }
+    }
+
     /// Begins a run, in a thread of its own. What fails by the disk is said, and the run is missed.
     fn begin(&mut self, run: Run, begins: Instant) -> Result<(), End> {
         let (shared, number) = (self.shared.clone(), run.number);
@@ -453,7 +505,10 @@ impl Scheduler {
             run.general_of(shared.file.node.number).ok_or_else(|| End::failed("this node is none of the run's"))?;
         let inbox = shared.inboxes.open(Inbox::new(&run, own));
         shared.expect_receipts(&run, begins);
-        let keys = match self.keeper.begin(number, run.set, shared.systems.version()) {
+        let since = Instant::now();
+        let keys = self.keeper.begin(number, run.set, shared.systems.version());
+        self.disk = since.elapsed();
+        let keys = match keys {
             Ok(keys) => keys,
             Err(told) => {
                 tracing::error!(alarm = "state", run = number, %told, "the run does not begin");
@@ -475,26 +530,30 @@ impl Scheduler {
         if let Some(votes) = &shared.votes {
             votes.begin(number);
         }
+        let disk = self.disk;
         let play = move || {
-            if !play(&shared, &run, node, &inbox, begins) {
+            if !play(&shared, &run, node, &inbox, begins, disk) {
                 shared.telling.note(number, false);
                 shared.end_in_votes(&run, None);
                 let lost = proposed.into_iter().map(|order| (number, order)).collect();
                 shared.tell_lost(&lost, "the run ended without a decision of this node");
             }
         };
-        let thread = thread::Builder::new().name(format!("run {number}")).stack_size(STACK).spawn(play);
+        let thread = thread::Builder::new().name(format!("run {number}")).stack_size(STACK).spawn(of_system(play));
         self.under_way.push(thread.map_err(|told| End::unusable("a thread", &told))?);
+        self.prepare_disk(number.saturating_add(1));
         Ok(())
     }
 }
 
-/// Makes a run, tells its decision, and keeps its log. Tells whether there is a decision.
-fn play(shared: &Arc<Shared>, run: &Run, node: Node, inbox: &Inbox, begins: Instant) -> bool {
+/// Makes a run, for which the disk took so long, tells its decision, and keeps its log. Tells whether there is a decision.
+fn play(shared: &Arc<Shared>, run: &Run, node: Node, inbox: &Inbox, begins: Instant, disk: Duration) -> bool {
     thread::sleep(begins.saturating_duration_since(Instant::now()));
     // A node that has not begun signs nothing, and one that begins late would count as faulty.
-    if begins.elapsed() > Duration::from_millis(u64::from(shared.file.clock.round_ms) / 4) {
-        tracing::warn!(run = run.number, "too late to begin");
+    let late = begins.elapsed();
+    if late > Duration::from_millis(u64::from(shared.file.clock.round_ms) / 4) {
+        let (late_ms, disk_ms) = (late.as_millis(), disk.as_millis());
+        tracing::warn!(run = run.number, late_ms, disk_ms, "too late to begin");
         shared.counts.missed.inc();
         shared.inboxes.close(inbox);
         return false;
@@ -625,18 +684,18 @@ fn start(runtime: &Runtime, shared: &Arc<Shared>) -> Result<(), End> {
     let doors = Doors::new(file, &transport)?;
     let listeners = Listeners::open(runtime, file, &doors)?;
     let _inside = runtime.enter();
-    tokio::spawn(peers::take(shared.clone(), doors.peers, listeners.peers));
+    tokio::spawn(peers::take(shared.clone(), doors.peers, listeners.peers).in_current_span());
     if let (Some(door), Some(listener)) = (doors.devices, listeners.devices) {
-        tokio::spawn(devices::take(shared.clone(), door, listener));
+        tokio::spawn(devices::take(shared.clone(), door, listener).in_current_span());
     }
     for link in shared.links.all().filter(|link| link.peer.number < file.node.number) {
-        tokio::spawn(peers::keep_connected(shared.clone(), transport.clone(), link.clone()));
+        tokio::spawn(peers::keep_connected(shared.clone(), transport.clone(), link.clone()).in_current_span());
     }
     for (place, watcher) in file.watchers.iter().enumerate() {
-        tokio::spawn(ship::ship(shared.clone(), transport.clone(), place, watcher.clone()));
+        tokio::spawn(ship::ship(shared.clone(), transport.clone(), place, watcher.clone()).in_current_span());
     }
     if let Some(listener) = listeners.metrics {
-        tokio::spawn(metrics::serve(listener, shared.counts.registry.clone()));
+        tokio::spawn(metrics::serve(listener, shared.counts.registry.clone()).in_current_span());
     }
     Ok(())
 }
@@ -659,6 +718,8 @@ fn check(file: &NodeFile, systems: &Systems, first: &Run) -> Result<(), End> {
 struct Started {
     shared: Arc<Shared>,
     scheduler: Scheduler,
+    /// What its lines say of its system.
+    span: Span,
 }
 
 impl Started {
@@ -677,8 +738,9 @@ impl Started {
         tracing::info!(node = file.node.number, system = %hex::encode(file.system.id), mark = ?keeper.newest(), "started");
         let (passing, prepared, under_way) = (Passing::default(), None, vec![]);
         let life = life::Told::default();
-        let scheduler = Scheduler { shared: shared.clone(), keeper, passing, life, prepared, under_way };
-        Ok(Started { shared, scheduler })
+        let (looked, disk) = (Instant::now(), Duration::ZERO);
+        let scheduler = Scheduler { shared: shared.clone(), keeper, passing, life, looked, disk, prepared, under_way };
+        Ok(Started { shared, scheduler, span: Span::current() })
     }
 
     /// Goes on until the node is told to end, or no run is left. Then it ends the runs under way, and hands out their logs.

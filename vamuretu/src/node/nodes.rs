@@ -94,7 +94,9 @@ fn begin_next(runtime: &Runtime, file: &NodeFile, decisions: &Decisions) -> Resu
     if read.clock.start <= file.clock.start || read.system.id == file.system.id {
         return Err(End::fault(&next.file, "the next system is another one, which begins later"));
     }
-    Started::new(runtime, &read, decisions).map(Some)
+    // The lines of the present system say of none, and these of which.
+    let span = tracing::error_span!("next", system = %hex::encode(read.system.id));
+    span.in_scope(|| Started::new(runtime, &read, decisions)).map(Some)
 }
 
 /// As `begin_next`. What is wrong with the next system is an alarm, and the present one goes on without it.
@@ -107,7 +109,9 @@ pub fn next_of(runtime: &Runtime, file: &NodeFile, decisions: &Decisions) -> Opt
 
 /// Has the node of the next system go on in a thread of its own.
 fn go_beside(next: Started) -> Result<JoinHandle<Result<(), End>>, End> {
+    let span = next.span.clone();
     let go_on = move || {
+        let _inside = span.entered();
         let ended = next.go_to_end();
         if let Err(told) = &ended {
             tracing::error!(alarm = "next", %told, "the node of the next system has ended");

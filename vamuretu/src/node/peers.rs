@@ -263,7 +263,7 @@ async fn serve(shared: &Shared, link: &Link, stream: Stream) {
 
 /// Hands a frame to its run.
 fn take_frame(shared: &Shared, from: u32, frame: Vec<u8>) {
-    match shared.inboxes.offer(from, frame) {
+    match shared.inboxes.offer(from, frame, |head| shared.compare_clocks(from, head)) {
         Ok(()) => {}
         Err(Refused::Fault(fault)) => shared.refuse(fault),
         Err(Refused::Late) => shared.refuse(vamuretu::NodeFault::F2),

@@ -23,6 +23,7 @@ use super::counts::Counts;
 use super::shelf::{self, Job, Shelf};
 use crate::config::NodeFile;
 use crate::disk::{self, Lock};
+use crate::threads::of_system;
 use crate::watch::judge::{pack_log, unpack};
 use crate::End;
 
@@ -414,7 +415,7 @@ impl Spool {
     fn start(logs: Logs, _lock: Lock) -> Result<Spool, End> {
         let (logs, (jobs, asked)) = (Arc::new(logs), channel());
         let shelf = Shelf::new(logs.clone());
-        let started = thread::Builder::new().name("disk".into()).spawn(move || shelf.work(&asked));
+        let started = thread::Builder::new().name("disk".into()).spawn(of_system(move || shelf.work(&asked)));
         started.map_err(|told| End::unusable("a thread", &told))?;
         Ok(Spool { logs, jobs, reads: Arc::new(Semaphore::new(1)), _lock })
     }

@@ -7,6 +7,8 @@ use std::fmt::Write;
 #[derive(Debug, Clone, Copy, PartialEq, Eq, PartialOrd, Ord)]
 pub enum State {
     Agreed,
+    /// Its logs came, and it is not judged yet.
+    Waits,
     /// Too few nodes are not assumed faulty to speak for the correct nodes.
     Few,
     Explained,
@@ -28,6 +30,7 @@ impl State {
     fn of(self) -> (&'static str, &'static str, &'static str) {
         match self {
             State::Agreed => ("agreed", "", "agreed"),
+            State::Waits => ("waits", "w", "logs wait to be judged"),
             State::Few => ("few", "f", "agreed, but too few nodes speak for the correct nodes"),
             State::Explained => ("explained", "e", "explained: more nodes are assumed faulty than planned for"),
             State::Gap => ("gap", "?", "no file that can be judged"),

@@ -33,6 +33,7 @@ struct Told {
     runs: Vec<Kept>,
     convicted: Vec<Found>,
     gaps: Vec<Found>,
+    waiting: Vec<Found>,
     bounds: Option<(u32, u32)>,
     states: BTreeMap<u32, State>,
     /// The rows that are no runs of a yes without a conviction.
@@ -80,6 +81,7 @@ impl Told {
         let runs = reader.kept(|it| !it.is_gone())?;
         let bounds = reader.bounds(asked.range)?;
         let gaps = if bounds.is_some() { reader.ask(Question::Gaps, asked.range)? } else { vec![] };
+        let waiting = if bounds.is_some() { reader.ask(Question::Waiting, asked.range)? } else { vec![] };
         // Anybody can make a run of keys of their own, so one that no admission shows convicts nobody here.
         let is_own = |number: Option<u32>| number.is_some() || !reader.has_admissions;
         let mut convicted = reader.ask(Question::Convictions, asked.range)?;
@@ -93,6 +95,9 @@ impl Told {
                 *worst = (*worst).max(state_of(run));
             }
         }
+        for number in waiting.iter().flat_map(Found::numbers) {
+            states.entry(number).or_insert(State::Waits);
+        }
         let is_odd = |it: &Kept| {
             it.is_there() && is_own(it.number()) && it.run.as_ref().is_some_and(|run| state_of(run) > State::Agreed)
         };
@@ -100,7 +105,7 @@ impl Told {
         let is_numberless = !reader.has_admissions && there().any(|run| run.number.is_none());
         let above = asked.of.parent().map(Path::to_owned).unwrap_or_default();
         let (digests, folder) = (reader.digests()?, asked.folder.clone().unwrap_or(above));
-        Ok(Told { runs, convicted, gaps, bounds, states, odd, digests, is_numberless, folder })
+        Ok(Told { runs, convicted, gaps, waiting, bounds, states, odd, digests, is_numberless, folder })
     }
 
     fn count(&self, verdict: Verdict) -> usize {
@@ -209,6 +214,8 @@ fn in_short(page: &mut Page, told: &Told, names: &Names, counts: &[(&str, &Vec<F
     lines.extend((few > 0).then(|| {
         format!("In {} too few nodes speak for the correct nodes.", counted(few, "agreed run", "agreed runs"))
     }));
+    let waiting = count(&told.waiting);
+    lines.extend((waiting > 0).then(|| format!("Logs of {} wait to be judged.", counted(waiting, "run", "runs"))));
     let is_well = told.odd.is_empty() && counts.iter().all(|it| it.1.is_empty());
     lines.push(if is_well { "Nothing else was found." } else { "What else was found stands below." }.into());
     page.verdict(is_well, &lines);
