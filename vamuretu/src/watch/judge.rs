@@ -161,7 +161,8 @@ fn shortest(first: &Tried, most: usize) -> Result<Option<(Tried, Vec<List>)>, Fa
 pub fn judge(header: &Header, of: Expected, logs: &[(u32, &[u8])]) -> Result<Judged, Fault> {
     let case = Case { header, of, logs };
     let with: List = logs.iter().map(|log| log.0).collect();
-    let (mut bundle, first) = case.audited((0..header.generals()).filter(|general| !with.contains(general)).collect())?;
+    let (mut bundle, first) =
+        case.audited((0..header.generals()).filter(|general| !with.contains(general)).collect())?;
     let mut tried = first.clone();
     while tried.verdict().is_no() && !named(tried.verdict()).is_subset(&tried.list) {
         let longer = tried.list.union(&named(tried.verdict())).copied().collect();
