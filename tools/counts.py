@@ -1,5 +1,5 @@
 #!/usr/bin/env python3
-"""Names each number of rows, tests or edits in docs/ASSURANCE.md that isn't that of the files beside it.
+"""Names each number of rows, tests or edits in crates/docs/CHECKS.md that isn't that of the files beside it.
 
     python3 tools/counts.py    at the top of the repository
 
@@ -10,7 +10,7 @@ import pathlib
 import re
 import sys
 
-PAGE, TOP = pathlib.Path("docs/ASSURANCE.md"), pathlib.Path()
+PAGE, TOP = pathlib.Path("crates/docs/CHECKS.md"), pathlib.Path()
 EDITS = pathlib.Path("edits/README.md")
 # The rows whose answers are wrong stand in the text, without their number.
 WRONG = "wrong.rows"

@@ -1,5 +1,5 @@
 #!/usr/bin/env python3
-"""Names each promise of docs/PROMISES.md whose definition or call isn't where the page says.
+"""Names each promise of crates/docs/PROMISES.md whose definition or call isn't where the page says.
 
     python3 tools/promises.py    at the top of the repository
 
@@ -16,7 +16,7 @@ import pathlib
 import re
 import sys
 
-PAGE = pathlib.Path("docs/PROMISES.md")
+PAGE = pathlib.Path("crates/docs/PROMISES.md")
 ITEM = re.compile(r"^- <a id=.*\n(?:  .*\n)*", re.MULTILINE)
 LINK = re.compile(r"\[([^\]]*)\]\(\.\./([^)#]+)(?:#[^)]*)?\)")
 NAME = re.compile(r"`([^`]+)`")
@@ -44,7 +44,7 @@ def declares_call(text, name):
 
 
 def read(path):
-    file = pathlib.Path(path)
+    file = pathlib.Path("crates", path)
     return file.read_text(encoding="utf-8") if file.is_file() else None
 
 

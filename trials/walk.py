@@ -1,5 +1,5 @@
-"""The runs that documents show: each command in README.md, docs/WALK.md, docs/LESSON.md, docs/COMMANDS.md and docs/IDENTITIES.md prints
-what stands there.
+"""The runs that documents show: each command in README.md, INSTALL.md, docs/WALK.md, docs/LESSON.md, docs/COMMANDS.md and docs/IDENTITIES.md
+prints what stands there.
 
 In a block of indented lines one that begins with `$ ` is a command, and the lines behind it, up to the next command or the
 end of the block, are what it prints, on standard output and standard error together. The commands of a document are run one
@@ -17,14 +17,16 @@ import tempfile
 from programs import run
 
 TOP = os.path.join(os.path.dirname(os.path.abspath(__file__)), "..")
-DOCUMENTS = ["README.md", "WALK.md", "LESSON.md", "COMMANDS.md", "IDENTITIES.md"]
+DOCUMENTS = ["README.md", "INSTALL.md", "WALK.md", "LESSON.md", "COMMANDS.md", "IDENTITIES.md"]
+# Those of them that stand at the top.
+AT_TOP = ["README.md", "INSTALL.md"]
 INDENT, PROMPT = "    ", "    $ "
 
 
 def shown(document, section=None, without=None):
     """The commands that a document shows, each with what it prints: of a section alone, or without one."""
     rows, is_open, heading = [], False, None
-    with open(os.path.join(TOP, "" if document == "README.md" else "docs", document), encoding="utf-8") as lines:
+    with open(os.path.join(TOP, "" if document in AT_TOP else "docs", document), encoding="utf-8") as lines:
         for line in lines:
             heading = line.strip("# \n") if line.startswith("## ") else heading
             if section not in (None, heading) or heading == without is not None:
