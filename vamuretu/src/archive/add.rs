@@ -15,7 +15,7 @@ use vamuretu::Fault;
 
 use super::files::{self, Listed, Names};
 use super::room::Rooms;
-use super::store::{Admission, Before, Judge, Outcome, Store};
+use super::store::{Admission, Before, FileOutcome, Judge, Store};
 use crate::config::Id;
 use crate::index::judged::{self, Admissions};
 use crate::text::spelled;
@@ -137,14 +137,14 @@ fn list(words: &Add) -> Result<Listed, End> {
 }
 
 /// What could not be looked at, as files with a fault.
-fn unread(listed: &Listed) -> Vec<(PathBuf, Outcome)> {
+fn unread(listed: &Listed) -> Vec<(PathBuf, FileOutcome)> {
     let of = |(path, told): &(PathBuf, String)| (path.clone(), cannot_read(told));
     listed.unread.iter().map(of).collect()
 }
 
-fn cannot_read(told: &impl std::fmt::Display) -> Outcome {
+fn cannot_read(told: &impl std::fmt::Display) -> FileOutcome {
     let stamp = files::Stamp { bytes: 0, modified: 0 };
-    Outcome::Judged { stamp, sha256: None, answer: Err(format!("unread: {told}")) }
+    FileOutcome::Judged { stamp, sha256: None, answer: Err(format!("unread: {told}")) }
 }
 
 // Admissions.
@@ -254,7 +254,7 @@ fn tasks(listed: Listed, mut before: BTreeMap<PathBuf, Before>, read_all: bool) 
 }
 
 /// What threads answer.
-type Outcomes = Receiver<(usize, thread::Result<(Task, Outcome)>)>;
+type Outcomes = Receiver<(usize, thread::Result<(Task, FileOutcome)>)>;
 
 /// What threads need.
 struct Work {
@@ -281,7 +281,7 @@ impl Work {
             let batch = batch.into_iter().map(|(_, it)| it).collect::<thread::Result<Vec<_>>>();
             let batch = batch.map_err(|_| End::failed(THREAD))?;
             seen += batch.len();
-            judged += batch.iter().filter(|(_, it)| matches!(it, Outcome::Judged { .. })).count();
+            judged += batch.iter().filter(|(_, it)| matches!(it, FileOutcome::Judged { .. })).count();
             let bytes = batch.iter().map(|(task, _)| task.bytes).sum();
             store.write(&self.judge, &batch.into_iter().map(|(task, it)| (task.path, it)).collect::<Vec<_>>())?;
             bar.inc(bytes);
@@ -292,14 +292,14 @@ impl Work {
     }
 
     /// What becomes of a file.
-    fn one(&self, task: &Task) -> Outcome {
+    fn one(&self, task: &Task) -> FileOutcome {
         let content = match files::read(&task.path, &self.rooms) {
             Ok(content) => content,
             Err(told) => return cannot_read(&told),
         };
         let stamp = content.stamp;
         if task.known.as_ref().is_some_and(|known| *known == content.sha256()) {
-            return Outcome::Same(stamp);
+            return FileOutcome::Same(stamp);
         }
         let memory = "memory was refused".to_owned();
         let judged = content.input.as_deref().map(|input| judged::judge(input, &self.admissions));
@@ -307,14 +307,16 @@ impl Work {
             // A file that is the input was hashed by the library.
             Ok(Ok(answer)) => {
                 let sha256 = content.stored.unwrap_or_else(|| answer.input.clone());
-                Outcome::Judged { stamp, sha256: Some(sha256), answer: Ok(answer) }
+                FileOutcome::Judged { stamp, sha256: Some(sha256), answer: Ok(answer) }
             }
-            Ok(Err(Fault::Memory)) => Outcome::Judged { stamp, sha256: None, answer: Err(memory) },
-            Ok(Err(fault)) => Outcome::Judged { stamp, sha256: Some(content.sha256()), answer: Err(fault.to_string()) },
+            Ok(Err(Fault::Memory)) => FileOutcome::Judged { stamp, sha256: None, answer: Err(memory) },
+            Ok(Err(fault)) => {
+                FileOutcome::Judged { stamp, sha256: Some(content.sha256()), answer: Err(fault.to_string()) }
+            }
             Err(told) if told.kind() == io::ErrorKind::OutOfMemory => {
-                Outcome::Judged { stamp, sha256: None, answer: Err(memory) }
+                FileOutcome::Judged { stamp, sha256: None, answer: Err(memory) }
             }
-            Err(told) => Outcome::Judged { stamp, sha256: Some(content.sha256()), answer: Err(told.to_string()) },
+            Err(told) => FileOutcome::Judged { stamp, sha256: Some(content.sha256()), answer: Err(told.to_string()) },
         }
     }
 }

@@ -5,8 +5,8 @@ use std::os::unix::ffi::OsStrExt;
 
 use serde_json::{json, Map, Value};
 
-use super::read::{put_path, Digest, Kept, Reader};
-use crate::index::Run;
+use super::read::{put_path, Digest, Reader, RunFile};
+use crate::index::JudgedRun;
 use crate::text::{self, spelled};
 use crate::End;
 
@@ -46,14 +46,14 @@ const COLUMNS: [&str; 24] = [
     "gone",
 ];
 
-fn object_of(row: &Kept) -> Map<String, Value> {
+fn object_of(row: &RunFile) -> Map<String, Value> {
     let (run, file) = (row.run.as_ref(), row.file.as_ref());
     let value = json!({
         "number": run.map(|it| it.number), "run": run.map(|it| &it.run_id), "generals": run.map(|it| it.generals),
         "traitors": run.map(|it| it.traitors), "verdict": run.map(|it| it.verdict), "order": run.map(|it| it.order),
         "assumed_faulty": run.map(|it| &it.assumed_faulty), "missing": run.map(|it| &it.missing),
         "suspected": run.map(|it| &it.suspected), "findings": run.map(|it| &it.findings),
-        "equal_roots": run.map(|it| &it.equal_roots), "convicted": run.map(Run::convicted_said),
+        "equal_roots": run.map(|it| &it.equal_roots), "convicted": run.map(JudgedRun::convicted_said),
         "fault": file.map(|it| &it.fault), "place": run.map(|it| it.place), "bytes": file.map(|it| it.bytes),
         "modified": file.map(|it| it.modified), "sha256": file.map(|it| &it.sha256), "input": file.map(|it| &it.input),
         "library": row.library(), "program": file.map(|it| &it.program), "judged": row.judged(), "gone": row.is_gone(),
@@ -66,7 +66,7 @@ fn object_of(row: &Kept) -> Map<String, Value> {
 }
 
 /// The fields of a row of CSV. A path that is spelled otherwise than it is stands in `path_hex` too.
-fn fields(row: &Kept) -> [String; COLUMNS.len()] {
+fn fields(row: &RunFile) -> [String; COLUMNS.len()] {
     let mut object = object_of(row);
     if let Some(path) = row.path().filter(|path| path.to_str() != Some(&spelled(*path))) {
         object.insert("path_hex".into(), hex::encode(path.as_os_str().as_bytes()).into());

@@ -7,9 +7,9 @@ use std::path::{Path, PathBuf};
 
 use serde_json::json;
 
-use super::read::{Kept, Reader};
+use super::read::{Reader, RunFile};
 use crate::config::{self, WatchFile};
-use crate::index::{Run, Source, Verdict};
+use crate::index::{JudgedRun, Source, Verdict};
 use crate::watch::keep::{bundle_path, BUNDLE, EARLIER, VERDICT};
 use crate::End;
 
@@ -29,12 +29,12 @@ fn goes(number: u32, first: u32, verdict: Verdict, convicted: usize) -> bool {
 }
 
 /// The number of a row, if a watcher has judged its run.
-fn number_of(run: &Run) -> Option<u32> {
+fn number_of(run: &JudgedRun) -> Option<u32> {
     run.number.filter(|_| run.source == Source::Watcher)
 }
 
 /// The path of the bundle of a row, if its files go. It has to be that by which a watcher stores this bundle.
-fn bundle_of(row: &Kept, first: u32) -> Option<String> {
+fn bundle_of(row: &RunFile, first: u32) -> Option<String> {
     let run = row.run.as_ref()?;
     let number = number_of(run)?;
     let path = own_path(number, row.input()?, row.path()?)?;

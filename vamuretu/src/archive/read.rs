@@ -7,7 +7,7 @@ use rusqlite::{Connection, Row};
 use serde_json::{json, Map, Value};
 
 use super::checked;
-use crate::index::{path_in, path_of, value_of, Asked, Conviction, Run, Source, Verdict};
+use crate::index::{path_in, path_of, value_of, Asked, Conviction, JudgedRun, Source, Verdict};
 use crate::text::spelled;
 use crate::End;
 
@@ -95,8 +95,8 @@ pub struct Found {
 
 /// A run that was judged, and its file. A gap has no file, and a file with a fault has no run.
 #[derive(Debug, Clone, PartialEq, Eq)]
-pub struct Kept {
-    pub run: Option<Run>,
+pub struct RunFile {
+    pub run: Option<JudgedRun>,
     pub file: Option<File>,
 }
 
@@ -219,11 +219,11 @@ impl File {
     }
 }
 
-impl Kept {
-    fn of(database: &Connection, row: &Row) -> Asked<Kept> {
+impl RunFile {
+    fn of(database: &Connection, row: &Row) -> Asked<RunFile> {
         let is_run = row.get_ref("id")? != rusqlite::types::ValueRef::Null;
-        let run = is_run.then(|| Run::read(database, row)).transpose()?;
-        Ok(Kept { run, file: File::of(row)? })
+        let run = is_run.then(|| JudgedRun::read(database, row)).transpose()?;
+        Ok(RunFile { run, file: File::of(row)? })
     }
 
     pub fn number(&self) -> Option<u32> {
@@ -267,7 +267,7 @@ impl Kept {
     /// The verdict in the words of a line, or the fault.
     pub fn said(&self) -> String {
         let fault = || self.fault().cloned().unwrap_or_default();
-        self.run.as_ref().map_or_else(fault, Run::said)
+        self.run.as_ref().map_or_else(fault, JudgedRun::said)
     }
 
     /// What was found of it.
@@ -288,7 +288,7 @@ impl Kept {
     }
 
     /// Who is convicted by a conviction of the run.
-    fn blamed(&self, run: &Run, it: &Conviction) -> Found {
+    fn blamed(&self, run: &JudgedRun, it: &Conviction) -> Found {
         let general = run.general_of(it.node);
         let (who, named) = match run.nodes.is_empty() {
             false => (Who::Node(it.node), format!("node {}", it.node)),
@@ -334,17 +334,17 @@ impl Reader {
     }
 
     /// Calls for each row that is kept, by number and path.
-    pub fn each_kept(&self, mut act: impl FnMut(Kept) -> Result<(), End>) -> Result<(), End> {
+    pub fn each_kept(&self, mut act: impl FnMut(RunFile) -> Result<(), End>) -> Result<(), End> {
         let mut asked = self.told(self.database.prepare(KEPT))?;
         let mut rows = self.told(asked.query([]))?;
         while let Some(row) = self.told(rows.next())? {
-            act(self.told(Kept::of(&self.database, row))?)?;
+            act(self.told(RunFile::of(&self.database, row))?)?;
         }
         Ok(())
     }
 
     /// All rows that are kept and pass.
-    pub fn kept(&self, pass: impl Fn(&Kept) -> bool) -> Result<Vec<Kept>, End> {
+    pub fn kept(&self, pass: impl Fn(&RunFile) -> bool) -> Result<Vec<RunFile>, End> {
         let mut all = vec![];
         self.each_kept(|row| {
             all.extend(pass(&row).then_some(row));
@@ -363,7 +363,7 @@ impl Reader {
             Question::EqualRoots => self.equal_roots(),
             Question::Changed => self.changed(),
             Question::Verdicts => {
-                let is_odd = |it: &Kept| it.is_there() && it.verdict() != Some(Verdict::Agreed);
+                let is_odd = |it: &RunFile| it.is_there() && it.verdict() != Some(Verdict::Agreed);
                 Ok(self.kept(is_odd)?.iter().map(|it| it.found(it.said())).collect())
             }
             Question::Faults => {
@@ -442,7 +442,7 @@ impl Reader {
     }
 
     /// The ids of all runs of the file of a run, in their order.
-    fn runs_of(&self, run: &Run) -> Result<Vec<String>, End> {
+    fn runs_of(&self, run: &JudgedRun) -> Result<Vec<String>, End> {
         let Some(path) = &run.path else { return Ok(vec![]) };
         let read = || {
             let order = "SELECT run_id FROM runs WHERE source = ? AND path = ? ORDER BY place";
@@ -471,8 +471,8 @@ impl Reader {
     }
 
     fn doubles(&self) -> Result<Vec<Found>, End> {
-        let mut runs: BTreeMap<(Option<u32>, Option<String>), Vec<Kept>> = BTreeMap::new();
-        for it in self.kept(Kept::is_there)? {
+        let mut runs: BTreeMap<(Option<u32>, Option<String>), Vec<RunFile>> = BTreeMap::new();
+        for it in self.kept(RunFile::is_there)? {
             let run_id = it.run.as_ref().map(|it| it.run_id.clone());
             runs.entry((it.number(), run_id)).or_default().push(it);
         }
@@ -483,7 +483,7 @@ impl Reader {
             // What the watcher has stored is no second file where the archive has taken it in.
             files.retain(|it| it.is_of(Source::Archive) || !own.contains(&it.input().cloned()));
             if let [first, _, ..] = &files[..] {
-                let said = files.iter().map(Kept::said).collect::<Vec<_>>().join("; ");
+                let said = files.iter().map(RunFile::said).collect::<Vec<_>>().join("; ");
                 let are_same = files.iter().all(|it| it.input() == first.input());
                 let bytes = if are_same { "the same bytes" } else { "different bytes" };
                 let paths = files.iter().filter_map(|it| it.path().map(Path::to_owned)).collect();
@@ -507,7 +507,7 @@ impl Reader {
 
     fn equal_roots(&self) -> Result<Vec<Found>, End> {
         let with = self.kept(|it| it.is_there() && it.run.as_ref().is_some_and(|run| !run.equal_roots.is_empty()))?;
-        let of = |it: &Kept| {
+        let of = |it: &RunFile| {
             let pairs = it.run.iter().flat_map(|run| &run.equal_roots).map(|(one, other)| format!("{one} and {other}"));
             it.found(format!("the same root: {}", pairs.collect::<Vec<_>>().join(", ")))
         };
@@ -564,14 +564,14 @@ impl Gaps {
 mod tests {
     use super::super::files::Stamp;
     use super::super::store::tests::{index, judge, judged};
-    use super::super::store::{Admission, Outcome};
+    use super::super::store::{Admission, FileOutcome};
     use super::*;
 
     /// An index with runs 3 and 5, of which 3 stands in two files, an unknown run, and a file with a fault.
     fn filled(name: &str) -> (PathBuf, Reader) {
         let (folder, mut store) = index(name);
         let stamp = Stamp { bytes: 4, modified: 1 };
-        let bad = Outcome::Judged { stamp, sha256: Some("f".repeat(64)), answer: Err("fault B2".into()) };
+        let bad = FileOutcome::Judged { stamp, sha256: Some("f".repeat(64)), answer: Err("fault B2".into()) };
         let files = [
             ("/a/3", judged('3', Some(3), "agreed", true)),
             ("/a/3 again", judged('3', Some(3), "agreed", true)),
@@ -648,7 +648,7 @@ mod tests {
         assert_eq!(reader.ask(Question::Convictions, Range::default()).expect("an answer")[0].general, Some(2));
         let changed = ["run 7: agreed 0, before no: other bytes"];
         assert_eq!(lines(&reader, Question::Changed, Range::default()), changed);
-        let there = reader.kept(Kept::is_there).expect("rows");
+        let there = reader.kept(RunFile::is_there).expect("rows");
         let run = there[0].run.as_ref().expect("a run");
         assert_eq!(
             (there.len(), &run.suspected[..], &run.findings[..]),

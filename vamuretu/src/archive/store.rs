@@ -13,7 +13,7 @@ use rusqlite::{params, Connection, OptionalExtension, Transaction};
 use super::files::Stamp;
 use crate::config::Id;
 use crate::index::judged::{Admissions, Answer};
-use crate::index::{self, in_one, path_of, value_of, Asked, Run};
+use crate::index::{self, in_one, path_of, value_of, Asked, JudgedRun};
 use crate::{clock, End};
 
 /// Who answers: the version of the library, and the SHA-256 of the program that has it.
@@ -35,7 +35,7 @@ pub struct Before {
 
 /// What has become of a file.
 #[derive(Debug)]
-pub enum Outcome {
+pub enum FileOutcome {
     /// It has the bytes that were judged.
     Same(Stamp),
     /// It was judged, or can't be: then there is a fault. A fault that is not of the file's bytes has no digest.
@@ -159,7 +159,7 @@ impl Store {
     }
 
     /// Writes what has become of files, in one transaction.
-    pub fn write(&mut self, judge: &Judge, outcomes: &[(PathBuf, Outcome)]) -> Result<(), End> {
+    pub fn write(&mut self, judge: &Judge, outcomes: &[(PathBuf, FileOutcome)]) -> Result<(), End> {
         let now = clock::now_ms();
         let write = |all: &Transaction| outcomes.iter().try_for_each(|(path, it)| put(all, judge, path, it, now));
         let written = in_one(&mut self.database, write);
@@ -192,14 +192,14 @@ fn execute(all: &Transaction, order: &str, row: impl rusqlite::Params) -> Asked<
 }
 
 /// Writes what has become of a file.
-fn put(all: &Transaction, judge: &Judge, path: &Path, outcome: &Outcome, now: i64) -> Asked<()> {
+fn put(all: &Transaction, judge: &Judge, path: &Path, outcome: &FileOutcome, now: i64) -> Asked<()> {
     let key = value_of(path);
     match outcome {
-        Outcome::Same(stamp) => {
+        FileOutcome::Same(stamp) => {
             let row = params![stamp.bytes, stamp.modified, key];
             execute(all, "UPDATE files SET bytes = ?, modified = ?, gone = 0 WHERE path = ?", row)?;
         }
-        Outcome::Judged { stamp, sha256, answer } => {
+        FileOutcome::Judged { stamp, sha256, answer } => {
             let said = answer.as_ref().map_or_else(String::clone, Answer::said);
             keep_earlier(all, judge, &key, (sha256.as_ref(), &said))?;
             let (fault, answer) = (answer.as_ref().err(), answer.as_ref().ok());
@@ -227,7 +227,7 @@ fn put(all: &Transaction, judge: &Judge, path: &Path, outcome: &Outcome, now: i6
             execute(all, &format!("DELETE FROM convictions WHERE run IN ({of_file})"), [&key])?;
             execute(all, "DELETE FROM runs WHERE source = 'archive' AND path = ?", [&key])?;
             for run in answer.iter().flat_map(|it| &it.runs) {
-                Run { path: Some(path.to_owned()), judged: now, ..run.clone() }.put(all, None)?;
+                JudgedRun { path: Some(path.to_owned()), judged: now, ..run.clone() }.put(all, None)?;
             }
         }
     }
@@ -267,7 +267,7 @@ pub mod tests {
     }
 
     /// A file of a run that was judged: its answer has this verdict, and convicts node 2 if that is said.
-    pub fn judged(run: char, number: Option<u32>, verdict: &str, is_convicted: bool) -> Outcome {
+    pub fn judged(run: char, number: Option<u32>, verdict: &str, is_convicted: bool) -> FileOutcome {
         let run_id = run.to_string().repeat(64);
         let admitted = number.map(|number| format!(r#"{{"nodes":[1,2,0],"number":{number},"run":"{run_id}"}}"#));
         let convicted = if is_convicted { r#"{"general":1,"id":"K2"}"# } else { "" };
@@ -280,7 +280,7 @@ pub mod tests {
         let finding = if verdict == "no" { "N8 from 0 to 2 round 1 order 1\n" } else { "" };
         let mut answer = Answer::read(json, &format!("run {run_id}\n{finding}end\n")).expect("an answer");
         answer.runs[0].convicted.iter_mut().for_each(|it| it.root = "e".repeat(64));
-        Outcome::Judged { stamp: Stamp { bytes: 9, modified: 1 }, sha256: Some(run_id), answer: Ok(answer) }
+        FileOutcome::Judged { stamp: Stamp { bytes: 9, modified: 1 }, sha256: Some(run_id), answer: Ok(answer) }
     }
 
     /// An index in a folder of its own.
@@ -308,9 +308,9 @@ pub mod tests {
         assert_eq!(write("a", judged('1', Some(3), "agreed", true)), (1, 1, 0, false));
         assert_eq!(write("a", judged('1', Some(3), "agreed", true)), (1, 1, 0, false));
         assert_eq!(write("b", judged('1', Some(3), "agreed", false)), (1, 0, 1, true));
-        assert_eq!(write("b", Outcome::Same(Stamp { bytes: 9, modified: 2 })), (1, 0, 1, true));
+        assert_eq!(write("b", FileOutcome::Same(Stamp { bytes: 9, modified: 2 })), (1, 0, 1, true));
         let stamp = Stamp { bytes: 0, modified: 0 };
-        let unread = || Outcome::Judged { stamp, sha256: None, answer: Err("unread".into()) };
+        let unread = || FileOutcome::Judged { stamp, sha256: None, answer: Err("unread".into()) };
         assert_eq!(write("b", unread()), (0, 0, 2, false));
         assert_eq!(write("b", unread()), (0, 0, 2, false));
         std::fs::remove_dir_all(folder).expect("a folder");

@@ -7,7 +7,7 @@ use std::sync::Arc;
 use serde::Deserialize;
 use vamuretu::{Expected, Fault, Judged, RunId};
 
-use super::run::{Conviction, Run, Source, Verdict};
+use super::run::{Conviction, JudgedRun, Source, Verdict};
 use crate::config::Id;
 
 /// What is said of an input, run by run.
@@ -19,7 +19,7 @@ pub struct Answer {
     /// The answer of the library: one line of JSON.
     pub json: String,
     /// The runs, without files, and judged at no time.
-    pub runs: Vec<Run>,
+    pub runs: Vec<JudgedRun>,
     /// For each run the order that each log decides, by the general of the log.
     pub decided: Vec<Vec<(u32, Option<u32>)>>,
 }
@@ -34,7 +34,7 @@ pub struct Admissions {
 }
 
 #[derive(Deserialize)]
-struct Told {
+struct JsonAnswer {
     input: Input,
     #[serde(default)]
     admitted: Admitted,
@@ -138,7 +138,7 @@ fn findings_of(text: &str) -> Vec<Vec<&str>> {
 
 impl Of {
     /// The run as it is kept. `place` is its place in the file.
-    fn run(&self, place: u32, around: &Around) -> Run {
+    fn run(&self, place: u32, around: &Around) -> JudgedRun {
         let (number, nodes) = around.admitted.get(&self.run).cloned().map_or((None, vec![]), |it| (Some(it.0), it.1));
         let node = |general: u32| nodes.get(general as usize).copied().unwrap_or(general);
         let sorted = |generals: &mut dyn Iterator<Item = u32>| {
@@ -158,7 +158,7 @@ impl Of {
         let is_shown = |general: &u32| self.logs.iter().any(|log| log.general == *general);
         let suspected = self.statuses.iter().filter(|it| it.status == "suspected").map(|it| it.general);
         let findings = around.findings.get(place as usize).into_iter().flatten();
-        Run {
+        JudgedRun {
             source: Source::Archive,
             number,
             run_id: self.run.clone(),
@@ -183,7 +183,7 @@ impl Of {
 }
 
 /// Tells the root of each who is convicted in a run, by the roots of its generals.
-fn name_roots(run: &mut Run, roots: &[String]) -> Option<()> {
+fn name_roots(run: &mut JudgedRun, roots: &[String]) -> Option<()> {
     for place in 0..run.convicted.len() {
         let general = run.general_of(run.convicted[place].node);
         run.convicted[place].root = roots.get(general as usize)?.clone();
@@ -206,7 +206,7 @@ impl Answer {
 
     /// The answer of a line of JSON and a text, without roots.
     pub fn read(json: String, text: &str) -> serde_json::Result<Answer> {
-        let told: Told = serde_json::from_str(&json)?;
+        let told: JsonAnswer = serde_json::from_str(&json)?;
         let runs: Vec<Of> = match told.runs {
             Some(runs) => runs,
             None => vec![serde_json::from_str(&json)?],
@@ -220,7 +220,7 @@ impl Answer {
 
     /// The answer in a few words, by which two answers are compared.
     pub fn said(&self) -> String {
-        self.runs.iter().map(Run::said).collect::<Vec<_>>().join("; ")
+        self.runs.iter().map(JudgedRun::said).collect::<Vec<_>>().join("; ")
     }
 }
 

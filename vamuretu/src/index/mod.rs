@@ -15,7 +15,7 @@ use rusqlite::{params, Connection, ErrorCode, OpenFlags, Row, Transaction};
 
 use crate::disk::{self, Lock};
 use crate::End;
-pub use run::{Conviction, Run, Source, Verdict};
+pub use run::{Conviction, JudgedRun, Source, Verdict};
 
 /// The version of the tables, and the mark of the program in the file.
 pub const VERSION: i32 = 3;

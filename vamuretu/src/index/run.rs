@@ -83,7 +83,7 @@ impl fmt::Display for Verdict {
 
 /// A run that was judged. Nodes have their numbers in the system if `nodes` has them, and otherwise those of generals in the run.
 #[derive(Debug, Clone, PartialEq, Eq)]
-pub struct Run {
+pub struct JudgedRun {
     pub source: Source,
     /// The number of the run in the system, if an admission shows it.
     pub number: Option<u32>,
@@ -131,10 +131,10 @@ pub struct Conviction {
     pub evidence: Option<String>,
 }
 
-impl Run {
+impl JudgedRun {
     /// The run of a row of `runs`, without who is convicted.
-    fn of(row: &Row) -> Asked<Run> {
-        Ok(Run {
+    fn of(row: &Row) -> Asked<JudgedRun> {
+        Ok(JudgedRun {
             source: Source::of(row, "source")?,
             number: row.get("number")?,
             run_id: row.get("run_id")?,
@@ -158,8 +158,8 @@ impl Run {
     }
 
     /// The run of a row of `runs`, which may have columns of other tables behind its own.
-    pub fn read(database: &Connection, row: &Row) -> Asked<Run> {
-        Ok(Run { convicted: Conviction::of_run(database, row.get("id")?)?, ..Run::of(row)? })
+    pub fn read(database: &Connection, row: &Row) -> Asked<JudgedRun> {
+        Ok(JudgedRun { convicted: Conviction::of_run(database, row.get("id")?)?, ..JudgedRun::of(row)? })
     }
 
     /// Writes the row in the place of one with this id, or as a new one, and tells its id. Who is convicted stands in rows of its

@@ -13,7 +13,7 @@ use tokio::net::TcpListener;
 use tokio::time::{timeout, timeout_at, Instant};
 
 use super::gather::{Gather, Step};
-use super::spool::{Kept, Spool};
+use super::spool::{DecisionFile, Spool};
 use super::Shared;
 use crate::config::{Devices, NodeFile};
 use crate::doors::{Door, Known, Shown};
@@ -97,9 +97,9 @@ impl<'a> Handing<'a> {
             if self.gather.is_set_back(self.set_back) {
                 return Err(io::Error::other("the clock was set back: runs begin that have passed"));
             }
-            match self.gather.step(self.run, self.spool.next_kept(Kept::Shown, self.run)) {
+            match self.gather.step(self.run, self.spool.next_kept(DecisionFile::Shown, self.run)) {
                 Step::Decision(body) => self.decision(&body).await?,
-                Step::Stored => match self.spool.read_kept(Kept::Shown, self.run).await {
+                Step::Stored => match self.spool.read_kept(DecisionFile::Shown, self.run).await {
                     Ok(body) => self.decision(&body).await?,
                     Err(_) => self.missing(self.run).await?,
                 },
@@ -167,7 +167,7 @@ mod tests {
     #[tokio::test]
     async fn a_device_gets_what_is_shown_in_ascending_order() {
         let (spool, gather) = (spool("devices", 0, 99, 1 << 20), Gather::new(BY_BYTES, 9));
-        spool.keep_decision(Kept::Shown, 5, [0, 0, 0, 5, 1].into());
+        spool.keep_decision(DecisionFile::Shown, 5, [0, 0, 0, 5, 1].into());
         settle(&spool);
         let ((device, node), (other, second)) = (duplex(1 << 16), duplex(1 << 16));
         let mut devices = [device, other];

@@ -12,7 +12,7 @@ use tokio::sync::futures::Notified;
 use tokio::sync::Notify;
 use vamuretu::RunId;
 
-use super::spool::Kept;
+use super::spool::DecisionFile;
 use super::Shared;
 use crate::doors::Seldom;
 use crate::systems::Run;
@@ -73,7 +73,7 @@ fn shown_by(run: &RunId, receipts: &[u8]) -> Option<u32> {
 
 /// Why a receipt is dropped.
 #[derive(Debug, Clone, Copy, PartialEq, Eq)]
-pub enum Refused {
+pub enum ReceiptRefused {
     /// It is of no run that is under way.
     Run,
     /// Its length is none of a receipt, or the node is none of the run's.
@@ -217,21 +217,21 @@ impl Gather {
     }
 
     /// Keeps a receipt that comes from a node until the thread looks at it. One more of a run that is shown is dropped.
-    pub fn offer(&self, node: u32, run: u32, receipt: &[u8]) -> Result<(), Refused> {
+    pub fn offer(&self, node: u32, run: u32, receipt: &[u8]) -> Result<(), ReceiptRefused> {
         let mut all = self.all();
         if all.recent.contains_key(&run) {
             return Ok(());
         }
-        let open = all.open.get_mut(&run).ok_or(Refused::Run)?;
+        let open = all.open.get_mut(&run).ok_or(ReceiptRefused::Run)?;
         if receipt.len() > MOST_RECEIPT || !open.of.nodes.contains(&node) {
-            return Err(Refused::Wrong);
+            return Err(ReceiptRefused::Wrong);
         }
         let of = open.nodes.entry(node).or_default();
         if of.refused >= MOST_REFUSED {
-            return Err(Refused::Barred);
+            return Err(ReceiptRefused::Barred);
         }
         if of.is_looked_at || of.waits.is_some() || of.shows.is_some() {
-            return Err(Refused::Again);
+            return Err(ReceiptRefused::Again);
         }
         of.waits = Some(receipt.into());
         drop(all);
@@ -240,7 +240,7 @@ impl Gather {
     }
 
     /// Looks at a receipt. Tells the decision that is shown now, or that the receipt is refused.
-    fn perform(&self, job: Job) -> Result<Option<Arc<[u8]>>, Refused> {
+    fn perform(&self, job: Job) -> Result<Option<Arc<[u8]>>, ReceiptRefused> {
         let told = (self.look.receipt)(&job.run_id, &job.receipt);
         let mut all = self.all();
         // The run may be over.
@@ -250,7 +250,7 @@ impl Gather {
         of.is_looked_at = false;
         let Some((_, order)) = told else {
             of.refused += 1;
-            return Err(Refused::Wrong);
+            return Err(ReceiptRefused::Wrong);
         };
         of.shows = Some((order, job.receipt));
         let Some(receipts) = open.shown(order) else { return Ok(None) };
@@ -324,7 +324,7 @@ impl Gather {
 fn keep(shared: &Shared, body: &[u8]) {
     let run = body.first_chunk().map_or(0, |run| u32::from_be_bytes(*run));
     shared.counts.shown.inc();
-    shared.spool.keep_decision(Kept::Shown, run, body.into());
+    shared.spool.keep_decision(DecisionFile::Shown, run, body.into());
 }
 
 /// Looks at what comes, for ever.
@@ -394,7 +394,7 @@ pub mod tests {
 
     impl Gather {
         /// Looks at a receipt that waits, as the thread does.
-        pub fn look_at_one(&self) -> Option<Result<Option<Arc<[u8]>>, Refused>> {
+        pub fn look_at_one(&self) -> Option<Result<Option<Arc<[u8]>>, ReceiptRefused>> {
             let job = self.all().take_job();
             job.map(|job| self.perform(job))
         }
@@ -404,7 +404,7 @@ pub mod tests {
         Instant::now() + Duration::from_secs(60)
     }
 
-    fn looked(gather: &Gather, node: u32, run: u32, bytes: &[u8]) -> Result<Option<Vec<u8>>, Refused> {
+    fn looked(gather: &Gather, node: u32, run: u32, bytes: &[u8]) -> Result<Option<Vec<u8>>, ReceiptRefused> {
         gather.offer(node, run, bytes)?;
         gather.look_at_one().expect("a receipt").map(|told| told.map(|body| body.to_vec()))
     }
@@ -428,19 +428,19 @@ pub mod tests {
     fn what_is_no_receipt_of_the_neighbour_is_refused() {
         let gather = Gather::new(BY_BYTES, 0);
         gather.open(opened(8), soon());
-        assert_eq!(gather.offer(1, 7, &receipt(7, 1, 0)), Err(Refused::Run));
-        assert_eq!(gather.offer(4, 8, &receipt(8, 1, 0)), Err(Refused::Wrong), "no node of the run's");
-        assert_eq!(gather.offer(1, 8, &[0; MOST_RECEIPT + 1]), Err(Refused::Wrong));
+        assert_eq!(gather.offer(1, 7, &receipt(7, 1, 0)), Err(ReceiptRefused::Run));
+        assert_eq!(gather.offer(4, 8, &receipt(8, 1, 0)), Err(ReceiptRefused::Wrong), "no node of the run's");
+        assert_eq!(gather.offer(1, 8, &[0; MOST_RECEIPT + 1]), Err(ReceiptRefused::Wrong));
         let wrong = [receipt(8, 2, 0), receipt(7, 1, 0), receipt(8, 1, 255), [8, 9, 0]];
         for bytes in wrong {
-            assert_eq!(looked(&gather, 1, 8, &bytes), Err(Refused::Wrong), "{bytes:?}");
+            assert_eq!(looked(&gather, 1, 8, &bytes), Err(ReceiptRefused::Wrong), "{bytes:?}");
         }
-        assert_eq!(gather.offer(1, 8, &receipt(8, 1, 0)), Err(Refused::Barred));
+        assert_eq!(gather.offer(1, 8, &receipt(8, 1, 0)), Err(ReceiptRefused::Barred));
         // Nobody else is barred, and each has one receipt.
         assert_eq!(gather.offer(2, 8, &receipt(8, 2, 0)), Ok(()));
-        assert_eq!(gather.offer(2, 8, &receipt(8, 2, 0)), Err(Refused::Again));
+        assert_eq!(gather.offer(2, 8, &receipt(8, 2, 0)), Err(ReceiptRefused::Again));
         assert_eq!(gather.look_at_one(), Some(Ok(None)));
-        assert_eq!(gather.offer(2, 8, &receipt(8, 2, 1)), Err(Refused::Again));
+        assert_eq!(gather.offer(2, 8, &receipt(8, 2, 1)), Err(ReceiptRefused::Again));
     }
 
     #[test]
@@ -450,7 +450,7 @@ pub mod tests {
         gather.open(opened(5), soon());
         assert_eq!(gather.begin().0, 4);
         assert_eq!(gather.next().map(|_| ()).map_err(|open| open.of.number), Err(4));
-        assert_eq!(gather.offer(1, 4, &receipt(4, 1, 0)), Err(Refused::Run));
+        assert_eq!(gather.offer(1, 4, &receipt(4, 1, 0)), Err(ReceiptRefused::Run));
         assert_eq!((gather.step(4, None), gather.step(5, None)), (Step::Missing(4), Step::Wait));
         gather.pass(9);
         assert_eq!((gather.begin().0, gather.step(4, Some(7))), (5, Step::Missing(4)));

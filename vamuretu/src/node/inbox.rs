@@ -10,7 +10,7 @@ use crate::systems::Run;
 
 /// Why a frame is not kept.
 #[derive(Debug, Clone, Copy, PartialEq, Eq)]
-pub enum Refused {
+pub enum FrameRefused {
     /// No correct node sends it, by its head.
     Fault(NodeFault),
     /// Its round has ended, or a frame of this round and sender is there.
@@ -34,12 +34,12 @@ pub struct Inbox {
     rounds: u32,
     orders: u32,
     longest: usize,
-    kept: Mutex<Kept>,
+    kept: Mutex<HeldFrames>,
     come: Condvar,
 }
 
 #[derive(Default)]
-struct Kept {
+struct HeldFrames {
     frames: BTreeMap<(u32, u32), Vec<u8>>,
     taken: BTreeSet<(u32, u32)>,
     /// How many frames the node has refused.
@@ -68,7 +68,7 @@ impl Inbox {
         self.run_id
     }
 
-    fn kept(&self) -> MutexGuard<'_, Kept> {
+    fn kept(&self) -> MutexGuard<'_, HeldFrames> {
         self.kept.lock().unwrap_or_else(|told| told.into_inner())
     }
 
@@ -87,17 +87,17 @@ impl Inbox {
     }
 
     /// Keeps a frame that came from a node until its round.
-    fn offer(&self, from: u32, head: &FrameHead, frame: Vec<u8>) -> Result<(), Refused> {
+    fn offer(&self, from: u32, head: &FrameHead, frame: Vec<u8>) -> Result<(), FrameRefused> {
         if let Some(fault) = self.fault_of(from, head, frame.len()) {
-            return Err(Refused::Fault(fault));
+            return Err(FrameRefused::Fault(fault));
         }
         let mut kept = self.kept();
         let place = (head.round, head.sender);
         if head.round <= kept.ended || kept.taken.contains(&place) || kept.frames.contains_key(&place) {
-            return Err(Refused::Late);
+            return Err(FrameRefused::Late);
         }
         if kept.refused.get(&place).map_or(false, |&count| count >= MOST_REFUSED) {
-            return Err(Refused::Barred);
+            return Err(FrameRefused::Barred);
         }
         kept.frames.insert(place, frame);
         self.come.notify_all();
@@ -131,7 +131,7 @@ impl Inbox {
 
     /// Waits until a frame of the round is there, or until a moment.
     pub fn wait(&self, round: u32, until: Instant) {
-        let is_none = |kept: &mut Kept| kept.frames.range((round, 0)..=(round, u32::MAX)).next().is_none();
+        let is_none = |kept: &mut HeldFrames| kept.frames.range((round, 0)..=(round, u32::MAX)).next().is_none();
         let left = until.saturating_duration_since(Instant::now());
         if left > Duration::ZERO {
             let _ = self.come.wait_timeout_while(self.kept(), left, is_none);
@@ -159,13 +159,13 @@ impl Inboxes {
     }
 
     /// Hands a frame that came from a node to the run whose id its head has.
-    pub fn offer(&self, from: u32, frame: Vec<u8>) -> Result<(), Refused> {
+    pub fn offer(&self, from: u32, frame: Vec<u8>) -> Result<(), FrameRefused> {
         let head = match FrameHead::read(&frame) {
             Ok(head) => head,
-            Err(Fault::Node(fault)) => return Err(Refused::Fault(fault)),
-            Err(_) => return Err(Refused::Fault(NodeFault::F3)),
+            Err(Fault::Node(fault)) => return Err(FrameRefused::Fault(fault)),
+            Err(_) => return Err(FrameRefused::Fault(NodeFault::F3)),
         };
-        let inbox = self.all().get(&head.run_id).cloned().ok_or(Refused::Fault(NodeFault::F6))?;
+        let inbox = self.all().get(&head.run_id).cloned().ok_or(FrameRefused::Fault(NodeFault::F6))?;
         inbox.offer(from, &head, frame)
     }
 }
@@ -187,14 +187,14 @@ mod tests {
         let inbox = inbox();
         assert_eq!(inbox.offer(1, &FrameHead { round: 2, ..HEAD }, vec![2]), Ok(()));
         assert_eq!(inbox.offer(1, &HEAD, vec![1]), Ok(()));
-        assert_eq!(inbox.offer(1, &HEAD, vec![3]), Err(Refused::Late));
+        assert_eq!(inbox.offer(1, &HEAD, vec![3]), Err(FrameRefused::Late));
         assert_eq!((inbox.take(1), inbox.take(1)), (Some((2, vec![1])), None));
         assert_eq!(inbox.offer(1, &HEAD, vec![4]), Ok(()), "the first was not taken, so another may come");
         inbox.is_taken(1, 2);
         assert_eq!(inbox.take(1), Some((2, vec![4])));
-        assert_eq!(inbox.offer(1, &HEAD, vec![5]), Err(Refused::Late));
+        assert_eq!(inbox.offer(1, &HEAD, vec![5]), Err(FrameRefused::Late));
         inbox.end(1);
-        assert_eq!(inbox.offer(2, &FrameHead { sender: 0, ..HEAD }, vec![6]), Err(Refused::Late));
+        assert_eq!(inbox.offer(2, &FrameHead { sender: 0, ..HEAD }, vec![6]), Err(FrameRefused::Late));
         assert_eq!(inbox.take(2), Some((2, vec![2])));
     }
 
@@ -206,7 +206,7 @@ mod tests {
             assert_eq!(inbox.take(1), Some((2, vec![1])));
             inbox.is_refused(1, 2);
         }
-        assert_eq!(inbox.offer(1, &HEAD, vec![1]), Err(Refused::Barred));
+        assert_eq!(inbox.offer(1, &HEAD, vec![1]), Err(FrameRefused::Barred));
         assert_eq!(inbox.offer(2, &FrameHead { sender: 0, ..HEAD }, vec![2]), Ok(()), "another neighbour's");
         assert_eq!(inbox.offer(1, &FrameHead { round: 2, ..HEAD }, vec![3]), Ok(()), "another round's");
     }
@@ -215,14 +215,14 @@ mod tests {
     fn heads_that_no_correct_node_sends_are_refused() {
         let inbox = inbox();
         let refused = |from, head: FrameHead, bytes| inbox.offer(from, &head, vec![0; bytes]).expect_err("refused");
-        assert_eq!(refused(1, FrameHead { run_id: [2; 32], ..HEAD }, 41), Refused::Fault(NodeFault::F6));
+        assert_eq!(refused(1, FrameHead { run_id: [2; 32], ..HEAD }, 41), FrameRefused::Fault(NodeFault::F6));
         for round in [0, 3, u32::MAX] {
-            assert_eq!(refused(1, FrameHead { round, ..HEAD }, 41), Refused::Fault(NodeFault::F7));
+            assert_eq!(refused(1, FrameHead { round, ..HEAD }, 41), FrameRefused::Fault(NodeFault::F7));
         }
         for (from, sender, receiver) in [(0, 2, 1), (1, 0, 1), (1, 2, 0), (0, 1, 1), (1, 99, 1), (9, 2, 1)] {
-            assert_eq!(refused(from, FrameHead { sender, receiver, ..HEAD }, 41), Refused::Fault(NodeFault::F8));
+            assert_eq!(refused(from, FrameHead { sender, receiver, ..HEAD }, 41), FrameRefused::Fault(NodeFault::F8));
         }
-        assert_eq!(refused(1, HEAD, 61), Refused::Fault(NodeFault::F5));
-        assert_eq!(refused(1, FrameHead { parcel_count: 3, ..HEAD }, 41), Refused::Fault(NodeFault::F5));
+        assert_eq!(refused(1, HEAD, 61), FrameRefused::Fault(NodeFault::F5));
+        assert_eq!(refused(1, FrameHead { parcel_count: 3, ..HEAD }, 41), FrameRefused::Fault(NodeFault::F5));
     }
 }

@@ -82,7 +82,7 @@ pub fn keep(file: &NodeFile, secret: &Path) -> Result<(), End> {
 }
 
 /// The state and the mark of a node that runs.
-pub struct Keeper {
+pub struct KeyKeeper {
     state_path: PathBuf,
     mark_path: PathBuf,
     system: Id,
@@ -96,13 +96,13 @@ pub struct Keeper {
     locks: Vec<Lock>,
 }
 
-impl Keeper {
+impl KeyKeeper {
     /// The state and the mark of a node, in whose system a set serves so many runs.
-    pub fn open(file: &NodeFile, slots: u32) -> Result<Keeper, End> {
-        Keeper::of(file.node.state.clone(), file.node.mark(), file.system.id, block_of(&file.clock, slots))
+    pub fn open(file: &NodeFile, slots: u32) -> Result<KeyKeeper, End> {
+        KeyKeeper::of(file.node.state.clone(), file.node.mark(), file.system.id, block_of(&file.clock, slots))
     }
 
-    fn of(state_path: PathBuf, mark_path: PathBuf, system: Id, block: u32) -> Result<Keeper, End> {
+    fn of(state_path: PathBuf, mark_path: PathBuf, system: Id, block: u32) -> Result<KeyKeeper, End> {
         let locks = Lock::take_all(&[&state_path, &mark_path])?;
         disk::refuse_links(&state_path)?;
         let state = SetState::of_bytes(&read_secret::<STATE_BYTES>(&state_path)?);
@@ -112,7 +112,7 @@ impl Keeper {
         disk::refuse_links(&mark_path)?;
         let text = fs::read_to_string(&mark_path).map_err(End::file(&mark_path))?;
         let mark = read_mark(&text, &system).ok_or_else(|| End::fault(&mark_path, "no mark of this system"))?;
-        Ok(Keeper { state_path, mark_path, system, block, state, newest: mark, stored: mark, keys: None, locks })
+        Ok(KeyKeeper { state_path, mark_path, system, block, state, newest: mark, stored: mark, keys: None, locks })
     }
 
     /// The number of the newest run that may have signed.
@@ -219,12 +219,12 @@ mod tests {
     }
 
     /// The keeper of a node whose sets serve four runs each.
-    fn open(folder: &Path) -> Keeper {
-        Keeper::of(folder.join("state"), folder.join("mark"), SYSTEM, 4).expect("a state and a mark")
+    fn open(folder: &Path) -> KeyKeeper {
+        KeyKeeper::of(folder.join("state"), folder.join("mark"), SYSTEM, 4).expect("a state and a mark")
     }
 
     /// Whether a run begins.
-    fn begins(keeper: &mut Keeper, run: u32) -> bool {
+    fn begins(keeper: &mut KeyKeeper, run: u32) -> bool {
         keeper.begin(run, Set { number: run / 4, last: run / 4 * 4 + 3 }, Version::Two).is_ok()
     }
 
@@ -245,7 +245,7 @@ mod tests {
         assert_eq!(stored(&here), 11);
         let locks = keeper.end();
         assert_eq!(stored(&here), 9);
-        assert!(Keeper::of(here.join("state"), here.join("mark"), SYSTEM, 4).is_err(), "the folder is locked");
+        assert!(KeyKeeper::of(here.join("state"), here.join("mark"), SYSTEM, 4).is_err(), "the folder is locked");
         drop(locks);
         let mut keeper = open(&here);
         assert!(!begins(&mut keeper, 9) && begins(&mut keeper, 10));

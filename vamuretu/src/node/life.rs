@@ -18,9 +18,9 @@ pub fn left(runs: u64, run: u32) -> u64 {
 
 /// Which parts were told.
 #[derive(Default)]
-pub struct Told(usize);
+pub struct PartsTold(usize);
 
-impl Told {
+impl PartsTold {
     /// Tells how many runs are left behind one that begins, if this is a part that was not told.
     pub fn alarm(&mut self, runs: u64, run: u32) -> Option<u64> {
         let left = left(runs, run);
@@ -62,10 +62,10 @@ mod tests {
 
     #[test]
     fn each_part_is_told_once() {
-        let mut told = Told::default();
+        let mut told = PartsTold::default();
         let alarms: Vec<(u32, u64)> = (0..1000).filter_map(|run| Some((run, told.alarm(1000, run)?))).collect();
         assert_eq!(alarms, [(899, 100), (989, 10)]);
-        assert_eq!(Told::default().alarm(1000, 995), Some(4));
-        assert_eq!((left(16, 15), left(16, 16), Told::default().alarm(4096, 0)), (0, 0, None));
+        assert_eq!(PartsTold::default().alarm(1000, 995), Some(4));
+        assert_eq!((left(16, 15), left(16, 16), PartsTold::default().alarm(4096, 0)), (0, 0, None));
     }
 }

@@ -23,7 +23,7 @@ use tokio::time::{timeout, timeout_at, Instant};
 use super::answers::{self, Decided, Line, Lost, Proposal, Status, Stored};
 use super::counts::Counts;
 use super::nodes::Nodes;
-use super::runs::Outcome;
+use super::runs::RunOutcome;
 use super::telling::Listening;
 use super::{worth, Shared};
 use crate::clock::Look;
@@ -85,7 +85,7 @@ pub fn value_of(file: &NodeFile, order: u32) -> Option<Value> {
 }
 
 /// The line of a decision.
-pub fn decision_line(file: &NodeFile, run: &Run, outcome: &Outcome, is_stored: bool) -> Arc<str> {
+pub fn decision_line(file: &NodeFile, run: &Run, outcome: &RunOutcome, is_stored: bool) -> Arc<str> {
     let (known, doubt) = (&outcome.known, outcome.known.doubt(run.traitors));
     let decided = Decided {
         system: hex::encode(file.system.id),

@@ -37,10 +37,10 @@ use self::ahead::Ahead;
 use self::counts::Counts;
 use self::gather::{Gather, Opened};
 use self::inbox::{Inbox, Inboxes};
-use self::keys::Keeper;
+use self::keys::KeyKeeper;
 use self::nodes::Nodes;
 use self::peers::Links;
-use self::runs::{Outcome, Play};
+use self::runs::{Play, RunOutcome};
 use self::spool::Spool;
 use self::telling::{Source, Telling};
 use self::vote::Votes;
@@ -191,7 +191,7 @@ impl Shared {
     }
 
     /// Keeps a receipt that comes from a node, if there is a door for devices.
-    pub fn offer(&self, node: u32, run: u32, receipt: &[u8]) -> Result<(), gather::Refused> {
+    pub fn offer(&self, node: u32, run: u32, receipt: &[u8]) -> Result<(), gather::ReceiptRefused> {
         self.gather.as_ref().map_or(Ok(()), |gather| gather.offer(node, run, receipt))
     }
 
@@ -208,14 +208,14 @@ impl Shared {
     }
 
     /// Tells the decision of a run, whose log the disk has not: applications its line, and neighbours and devices the receipt.
-    fn tell_decided(&self, run: &Run, outcome: &Outcome) {
+    fn tell_decided(&self, run: &Run, outcome: &RunOutcome) {
         self.telling.tell_decided(run.number, local::decision_line(&self.file, run, outcome, false));
         self.links.hand_on(run.number, &outcome.receipt);
         let _ = self.offer(self.file.node.number, run.number, &outcome.receipt);
     }
 
     /// What tells that the disk has the log of a run, and keeps the line of the decision for those who ask later.
-    fn told_when_stored(self: &Arc<Shared>, run: &Run, outcome: &Outcome) -> impl FnOnce() + Send + 'static {
+    fn told_when_stored(self: &Arc<Shared>, run: &Run, outcome: &RunOutcome) -> impl FnOnce() + Send + 'static {
         let (shared, number) = (self.clone(), run.number);
         let stored = local::stored_line(&self.file, run);
         let decided = local::decision_line(&self.file, run, outcome, true);
@@ -316,7 +316,7 @@ impl Shared {
     }
 
     /// Tells the votes that are over, where a run has ended, with an outcome or without one.
-    fn end_in_votes(&self, run: &Run, outcome: Option<&Outcome>) {
+    fn end_in_votes(&self, run: &Run, outcome: Option<&RunOutcome>) {
         let lines = self.votes.iter().flat_map(|votes| votes.end(&self.file, run, outcome));
         lines.for_each(|line| self.telling.tell(line));
     }
@@ -345,9 +345,9 @@ impl Shared {
 /// Begins runs by the clock, until the node is told to end.
 struct Scheduler {
     shared: Arc<Shared>,
-    keeper: Keeper,
+    keeper: KeyKeeper,
     passing: Passing,
-    life: life::Told,
+    life: life::PartsTold,
     /// The run that begins next, whose header is made while there is time.
     prepared: Option<Run>,
     under_way: Vec<JoinHandle<()>>,
@@ -520,7 +520,7 @@ fn play(shared: &Arc<Shared>, run: &Run, node: Node, inbox: &Inbox, begins: Inst
 }
 
 /// Tells a decision, and counts it.
-fn tell(shared: &Shared, run: &Run, outcome: &Outcome, begins: Instant) {
+fn tell(shared: &Shared, run: &Run, outcome: &RunOutcome, begins: Instant) {
     shared.tell_decided(run, outcome);
     shared.counts.decision.observe(begins.elapsed().as_secs_f64());
     shared.counts.decided.inc();
@@ -532,7 +532,7 @@ fn tell(shared: &Shared, run: &Run, outcome: &Outcome, begins: Instant) {
 }
 
 /// Hands the log of a run to the disk, and waits until that has it or has taken too long.
-fn keep(shared: &Arc<Shared>, run: &Run, play: &mut Play, outcome: &Outcome, begins: Instant) {
+fn keep(shared: &Arc<Shared>, run: &Run, play: &mut Play, outcome: &RunOutcome, begins: Instant) {
     match play.log() {
         Ok(log) => {
             let keeping = shared.spool.keep(run.number, &log, shared.told_when_stored(run, outcome));
@@ -667,7 +667,7 @@ impl Started {
         let systems = Systems::open(&file.system)?;
         let first = systems.run(0)?;
         check(file, &systems, &first)?;
-        let keeper = Keeper::open(file, systems.slots() as u32)?;
+        let keeper = KeyKeeper::open(file, systems.slots() as u32)?;
         let next = keeper.newest().map_or(0, |mark| mark.saturating_add(1));
         let shared = Arc::new(Shared::new(file, systems, &first, next, decisions)?);
         shared.note_sets(keeper.newest());
@@ -676,7 +676,7 @@ impl Started {
         start(runtime, &shared)?;
         tracing::info!(node = file.node.number, system = %hex::encode(file.system.id), mark = ?keeper.newest(), "started");
         let (passing, prepared, under_way) = (Passing::default(), None, vec![]);
-        let life = life::Told::default();
+        let life = life::PartsTold::default();
         let scheduler = Scheduler { shared: shared.clone(), keeper, passing, life, prepared, under_way };
         Ok(Started { shared, scheduler })
     }

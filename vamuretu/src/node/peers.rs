@@ -11,7 +11,7 @@ use tokio::net::TcpListener;
 use tokio::time::timeout;
 
 use super::gather::MOST_RECEIPT;
-use super::inbox::Refused;
+use super::inbox::FrameRefused;
 use super::Shared;
 use crate::config::{NodeFile, Peer};
 use crate::doors::{Door, Known, Seldom, Shown};
@@ -265,9 +265,9 @@ async fn serve(shared: &Shared, link: &Link, stream: Stream) {
 fn take_frame(shared: &Shared, from: u32, frame: Vec<u8>) {
     match shared.inboxes.offer(from, frame) {
         Ok(()) => {}
-        Err(Refused::Fault(fault)) => shared.refuse(fault),
-        Err(Refused::Late) => shared.refuse(vamuretu::NodeFault::F2),
-        Err(Refused::Barred) => shared.counts.barred.with_label_values(&[&from.to_string()]).inc(),
+        Err(FrameRefused::Fault(fault)) => shared.refuse(fault),
+        Err(FrameRefused::Late) => shared.refuse(vamuretu::NodeFault::F2),
+        Err(FrameRefused::Barred) => shared.counts.barred.with_label_values(&[&from.to_string()]).inc(),
     }
 }
 

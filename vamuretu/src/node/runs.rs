@@ -24,7 +24,7 @@ const REFUSED: Duration = Duration::from_millis(1);
 const LEAVES: [Duration; 2] = [Duration::from_micros(100), Duration::from_millis(1)];
 
 /// What a run has come to.
-pub struct Outcome {
+pub struct RunOutcome {
     pub order: u32,
     pub receipt: Vec<u8>,
     pub known: Known,
@@ -202,14 +202,14 @@ impl<'a> Play<'a> {
     }
 
     /// Makes all rounds.
-    pub fn all(&mut self) -> Result<Outcome, Fault> {
+    pub fn all(&mut self) -> Result<RunOutcome, Fault> {
         for round in 1..=self.run.header.rounds() as u32 {
             self.round(round)?;
         }
         until_done(|| self.node.finish())?;
         let (order, receipt) = (self.node.order()?, until_done(|| self.node.receipt())?);
         self.know_what_left();
-        Ok(Outcome { order, receipt, known: std::mem::take(&mut self.known) })
+        Ok(RunOutcome { order, receipt, known: std::mem::take(&mut self.known) })
     }
 
     /// The log of a run whose rounds were made.

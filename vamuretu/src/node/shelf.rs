@@ -10,7 +10,7 @@ use std::time::{Duration, Instant};
 
 use tokio::sync::oneshot;
 
-use super::spool::{Kept, Logs};
+use super::spool::{DecisionFile, Logs};
 use crate::disk;
 
 /// How often it is tried again what the disk did not do.
@@ -25,7 +25,7 @@ pub enum Job {
     /// To read the log of a run that waits.
     Read(u32, oneshot::Sender<io::Result<Vec<u8>>>),
     /// To put what is kept of a decision.
-    Keep(Kept, u32, Vec<u8>),
+    Keep(DecisionFile, u32, Vec<u8>),
 }
 
 pub struct Shelf {
@@ -94,14 +94,14 @@ impl Shelf {
 
     /// Takes away what is kept of the decision of a run.
     fn take_decision(&self, run: u32) {
-        for kind in Kept::ALL.into_iter().filter(|&kind| self.logs.bytes_of_kept(kind, run).is_some()) {
+        for kind in DecisionFile::ALL.into_iter().filter(|&kind| self.logs.bytes_of_kept(kind, run).is_some()) {
             let gone = remove(&self.logs.kept_path(kind, run));
             self.logs.is_kept_taken(kind, run, gone.is_ok());
         }
     }
 
     /// Puts what is kept of a decision, if there is room, and the disk has refused no log.
-    fn keep(&self, kind: Kept, run: u32, bytes: &[u8]) {
+    fn keep(&self, kind: DecisionFile, run: u32, bytes: &[u8]) {
         let has_room = !self.logs.has_refused() && self.make_room((bytes.len() + disk::SEAL) as u64);
         let put = match has_room {
             true => disk::put_sealed(&self.logs.kept_path(kind, run), 0o644, bytes),

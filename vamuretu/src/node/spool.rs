@@ -53,21 +53,21 @@ const OWNER: &str = "system";
 /// What is kept of a decision beside the log, each in a file. None is worth as much as a log: the disk is not waited for, and
 /// it goes with the log of its run, or where there is no room.
 #[derive(Debug, Clone, Copy, PartialEq, Eq)]
-pub enum Kept {
+pub enum DecisionFile {
     /// The line that applications get, which zstd has compressed.
     Line,
     /// The message that devices get.
     Shown,
 }
 
-impl Kept {
-    pub const ALL: [Kept; 2] = [Kept::Line, Kept::Shown];
+impl DecisionFile {
+    pub const ALL: [DecisionFile; 2] = [DecisionFile::Line, DecisionFile::Shown];
 
     /// What the name of its file ends with.
     fn ending(self) -> &'static str {
         match self {
-            Kept::Line => ".line.zst",
-            Kept::Shown => ".shown",
+            DecisionFile::Line => ".line.zst",
+            DecisionFile::Shown => ".shown",
         }
     }
 }
@@ -150,7 +150,7 @@ impl All {
     }
 
     /// Notes what was put of a decision, in the place of what was there.
-    fn keep(&mut self, kind: Kept, run: u32, bytes: u64) {
+    fn keep(&mut self, kind: DecisionFile, run: u32, bytes: u64) {
         self.bytes += bytes;
         self.bytes -= self.kept[kind as usize].insert(run, bytes).unwrap_or(0);
     }
@@ -223,7 +223,7 @@ impl Logs {
     }
 
     /// The file of what is kept of a decision.
-    pub fn kept_path(&self, kind: Kept, run: u32) -> PathBuf {
+    pub fn kept_path(&self, kind: DecisionFile, run: u32) -> PathBuf {
         self.folder.join(DECIDED).join(format!("{run:010}{}", kind.ending()))
     }
 
@@ -256,7 +256,9 @@ impl Logs {
             let bytes = entry.metadata()?.len();
             if let Some(watchers) = watchers {
                 run_of(ENDING).into_iter().for_each(|run| all.put(run, bytes, watchers));
-            } else if let Some((kind, run)) = Kept::ALL.iter().find_map(|&kind| Some((kind, run_of(kind.ending())?))) {
+            } else if let Some((kind, run)) =
+                DecisionFile::ALL.iter().find_map(|&kind| Some((kind, run_of(kind.ending())?)))
+            {
                 all.keep(kind, run, bytes);
             }
         }
@@ -337,19 +339,19 @@ impl Logs {
     }
 
     /// The same of what is kept of a decision.
-    pub fn is_kept_taken(&self, kind: Kept, run: u32, is_gone: bool) {
+    pub fn is_kept_taken(&self, kind: DecisionFile, run: u32, is_gone: bool) {
         let mut all = self.all();
         let bytes = all.kept[kind as usize].remove(&run).unwrap_or(0);
         all.bytes -= if is_gone { bytes } else { 0 };
     }
 
     /// How many bytes the file has of what is kept of a decision, if it is there.
-    pub fn bytes_of_kept(&self, kind: Kept, run: u32) -> Option<u64> {
+    pub fn bytes_of_kept(&self, kind: DecisionFile, run: u32) -> Option<u64> {
         self.all().kept[kind as usize].get(&run).copied()
     }
 
     /// Notes what came of putting what is kept of a decision.
-    pub fn is_kept(&self, kind: Kept, run: u32, bytes: usize, put: io::Result<()>) {
+    pub fn is_kept(&self, kind: DecisionFile, run: u32, bytes: usize, put: io::Result<()>) {
         let mut all = self.all();
         all.unkept -= bytes;
         match put {
@@ -438,7 +440,7 @@ impl Spool {
     }
 
     /// Has the thread of the disk keep what was decided in a run. Nobody waits for it, and where too much waits it is dropped.
-    pub fn keep_decision(&self, kind: Kept, run: u32, bytes: Vec<u8>) {
+    pub fn keep_decision(&self, kind: DecisionFile, run: u32, bytes: Vec<u8>) {
         let mut all = self.logs.all();
         if all.unkept + bytes.len() > MOST_UNKEPT {
             self.logs.counts.unkept.inc();
@@ -452,18 +454,18 @@ impl Spool {
     /// Keeps the line of a decision.
     pub fn keep_line(&self, run: u32, line: &str) {
         match pack_log(line.as_bytes()) {
-            Ok(bytes) => self.keep_decision(Kept::Line, run, bytes),
+            Ok(bytes) => self.keep_decision(DecisionFile::Line, run, bytes),
             Err(_) => self.logs.counts.unkept.inc(),
         }
     }
 
     /// The least run from this one on of whose decision this is kept.
-    pub fn next_kept(&self, kind: Kept, run: u32) -> Option<u32> {
+    pub fn next_kept(&self, kind: DecisionFile, run: u32) -> Option<u32> {
         self.logs.all().kept[kind as usize].range(run..).next().map(|(&run, _)| run)
     }
 
     /// Reads what is kept of a decision. One is read at a time, and no log waits for that.
-    pub async fn read_kept(&self, kind: Kept, run: u32) -> io::Result<Vec<u8>> {
+    pub async fn read_kept(&self, kind: DecisionFile, run: u32) -> io::Result<Vec<u8>> {
         let turn = self.reads.clone().acquire_owned().await.map_err(io::Error::other)?;
         let bytes = self.logs.bytes_of_kept(kind, run).ok_or(io::ErrorKind::NotFound)?;
         let path = self.logs.kept_path(kind, run);
@@ -476,7 +478,7 @@ impl Spool {
 
     /// Reads the line of a decision.
     pub async fn read_line(&self, run: u32) -> io::Result<String> {
-        let line = unpack(&self.read_kept(Kept::Line, run).await?, MOST_LINE)?;
+        let line = unpack(&self.read_kept(DecisionFile::Line, run).await?, MOST_LINE)?;
         String::from_utf8(line).map_err(io::Error::other)
     }
 
@@ -774,7 +776,7 @@ pub mod tests {
     }
 
     /// What is kept of a decision, once it is.
-    async fn kept(spool: &Spool, kind: Kept, run: u32) -> Option<Vec<u8>> {
+    async fn kept(spool: &Spool, kind: DecisionFile, run: u32) -> Option<Vec<u8>> {
         settle(spool);
         spool.read_kept(kind, run).await.ok()
     }
@@ -785,24 +787,33 @@ pub mod tests {
         for run in [1, 2, 3] {
             assert!(keep(&spool, run, &log(run as u8)));
             spool.keep_line(run, "{}");
-            spool.keep_decision(Kept::Shown, run, vec![run as u8]);
+            spool.keep_decision(DecisionFile::Shown, run, vec![run as u8]);
         }
         settle(&spool);
-        assert_eq!((kept(&spool, Kept::Shown, 2).await, spool.next_kept(Kept::Shown, 2)), (Some(vec![2]), Some(2)));
-        assert_eq!((spool.read_line(3).await.expect("a line").as_str(), spool.next_kept(Kept::Line, 4)), ("{}", None));
-        assert!(kept(&spool, Kept::Shown, 4).await.is_none());
+        assert_eq!(
+            (kept(&spool, DecisionFile::Shown, 2).await, spool.next_kept(DecisionFile::Shown, 2)),
+            (Some(vec![2]), Some(2))
+        );
+        assert_eq!(
+            (spool.read_line(3).await.expect("a line").as_str(), spool.next_kept(DecisionFile::Line, 4)),
+            ("{}", None)
+        );
+        assert!(kept(&spool, DecisionFile::Shown, 4).await.is_none());
         // The log of run 1 waits for the watcher, and its decision goes by the number of the run.
         assert!(keep(&spool, 4, &log(4)));
-        await_that(|| spool.next_kept(Kept::Shown, 0) == Some(2));
-        assert_eq!((spool.next_kept(Kept::Line, 0), wanted(&spool, 0)), (Some(2), vec![1, 2, 3, 4]));
+        await_that(|| spool.next_kept(DecisionFile::Shown, 0) == Some(2));
+        assert_eq!((spool.next_kept(DecisionFile::Line, 0), wanted(&spool, 0)), (Some(2), vec![1, 2, 3, 4]));
         // A start finds what is kept, and not a file that is cut.
-        fs::write(spool.logs.kept_path(Kept::Shown, 3), b"cut").expect("cut");
+        fs::write(spool.logs.kept_path(DecisionFile::Shown, 3), b"cut").expect("cut");
         let (folder, before) = (spool.logs.folder.clone(), spool.logs.all().bytes);
         drop(spool);
         let logs = Logs::new(&folder, vec![], 2, 1 << 20, Counts::new(40)).expect("logs");
         assert_eq!(logs.all().bytes, before - 33 + 3);
         let spool = Spool::start(logs, Lock::take(&folder).expect("the folder")).expect("a thread");
-        assert_eq!((kept(&spool, Kept::Shown, 2).await, kept(&spool, Kept::Shown, 3).await), (Some(vec![2]), None));
+        assert_eq!(
+            (kept(&spool, DecisionFile::Shown, 2).await, kept(&spool, DecisionFile::Shown, 3).await),
+            (Some(vec![2]), None)
+        );
         end(spool);
     }
 
@@ -810,14 +821,14 @@ pub mod tests {
     async fn decisions_give_way_to_logs() {
         let spool = spool("way", 1, 99, 4200);
         assert!(keep(&spool, 1, &log(1)) && keep(&spool, 2, &log(2)));
-        (1..=3).for_each(|run| spool.keep_decision(Kept::Shown, run, vec![0; 600]));
-        assert_eq!(kept(&spool, Kept::Shown, 3).await.map(|it| it.len()), Some(600));
+        (1..=3).for_each(|run| spool.keep_decision(DecisionFile::Shown, run, vec![0; 600]));
+        assert_eq!(kept(&spool, DecisionFile::Shown, 3).await.map(|it| it.len()), Some(600));
         assert!(keep(&spool, 3, &log(3)) && spool.logs.all().bytes <= 4200);
-        assert_eq!((spool.next_kept(Kept::Shown, 0), spool.logs.counts.spool_given_up.get()), (Some(3), 0));
-        assert!(keep(&spool, 4, &log(4)) && spool.next_kept(Kept::Shown, 0).is_none());
-        spool.keep_decision(Kept::Shown, 5, vec![0; 600]);
-        assert!(kept(&spool, Kept::Shown, 5).await.is_none() && spool.logs.counts.unkept.get() == 1);
-        spool.keep_decision(Kept::Shown, 6, vec![0; MOST_UNKEPT + 1]);
+        assert_eq!((spool.next_kept(DecisionFile::Shown, 0), spool.logs.counts.spool_given_up.get()), (Some(3), 0));
+        assert!(keep(&spool, 4, &log(4)) && spool.next_kept(DecisionFile::Shown, 0).is_none());
+        spool.keep_decision(DecisionFile::Shown, 5, vec![0; 600]);
+        assert!(kept(&spool, DecisionFile::Shown, 5).await.is_none() && spool.logs.counts.unkept.get() == 1);
+        spool.keep_decision(DecisionFile::Shown, 6, vec![0; MOST_UNKEPT + 1]);
         assert_eq!((spool.logs.counts.unkept.get(), wanted(&spool, 0)), (2, vec![1, 2, 3, 4]));
         end(spool);
     }

@@ -7,7 +7,7 @@ use tokio::sync::broadcast::{error::RecvError, Receiver};
 use tokio::sync::OwnedSemaphorePermit;
 
 use super::answers::{Gone, Line};
-use super::spool::{Kept, Spool};
+use super::spool::{DecisionFile, Spool};
 use super::Decisions;
 use crate::config::Id;
 
@@ -133,7 +133,7 @@ impl Listening {
 
     /// The next run whose decision is kept, with the place of its source. Earlier systems stand in front.
     fn next_kept(&self, sources: &[Source<'_>]) -> Option<(usize, u32)> {
-        let kept = |(source, &from): (&Source<'_>, &u32)| source.spool.next_kept(Kept::Line, from);
+        let kept = |(source, &from): (&Source<'_>, &u32)| source.spool.next_kept(DecisionFile::Line, from);
         let mut found = sources.iter().zip(&self.from).map(kept).enumerate();
         found.find_map(|(place, run)| Some((place, run?)))
     }

@@ -9,7 +9,7 @@ use vamuretu::{combine, Combination};
 
 use super::answers::{Combined, InVote, Line};
 use super::local::value_of;
-use super::runs::Outcome;
+use super::runs::RunOutcome;
 use crate::config::{NodeFile, Rule};
 use crate::systems::{Run, Systems};
 use crate::End;
@@ -33,7 +33,7 @@ fn name_of(rule: Rule) -> &'static str {
 }
 
 /// What this node decided in a run, unless no node proposes in it.
-fn in_vote(file: &NodeFile, run: &Run, outcome: &Outcome) -> Option<InVote> {
+fn in_vote(file: &NodeFile, run: &Run, outcome: &RunOutcome) -> Option<InVote> {
     Some(InVote {
         run: run.number,
         proposer: *run.nodes.first()?,
@@ -182,7 +182,7 @@ impl Votes {
     }
 
     /// A run has ended, with an outcome or without one. Gives the lines of the votes that are over.
-    pub fn end(&self, file: &NodeFile, run: &Run, outcome: Option<&Outcome>) -> Vec<Arc<str>> {
+    pub fn end(&self, file: &NodeFile, run: &Run, outcome: Option<&RunOutcome>) -> Vec<Arc<str>> {
         let mut tally = self.tally();
         tally.end(run.number, outcome.and_then(|outcome| in_vote(file, run, outcome)));
         self.lines(file, tally)

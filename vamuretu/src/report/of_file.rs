@@ -12,7 +12,7 @@ use crate::archive::files;
 use crate::archive::room::Rooms;
 use crate::clock;
 use crate::index::judged::Answer;
-use crate::index::{Conviction, Run, Verdict};
+use crate::index::{Conviction, JudgedRun, Verdict};
 use crate::text::spelled;
 use crate::End;
 
@@ -80,7 +80,7 @@ fn judged_by(page: &mut Page, asked: &Report, stored: String, input: String) {
 
 /// Which node each general is, run by run.
 fn generals(answer: &Answer, names: &Names) -> String {
-    let of = |run: &Run| match run.number {
+    let of = |run: &JudgedRun| match run.number {
         Some(number) => format!(" Run {number}:{}", names.generals(&run.nodes)),
         None => String::new(),
     };
@@ -121,7 +121,7 @@ fn said(page: &mut Page, answer: &Answer, names: &Names, is_pinned: bool) {
 fn convicted(page: &mut Page, answer: &Answer, names: &Names, file: &Path) {
     let mut rows: Vec<Vec<Field>> = vec![];
     // The evidence of a general is that of the first run that convicts it alone, or else across two runs.
-    let mut first: BTreeMap<u32, (bool, u32, &Run)> = BTreeMap::new();
+    let mut first: BTreeMap<u32, (bool, u32, &JudgedRun)> = BTreeMap::new();
     for (run, it) in answer.runs.iter().flat_map(|run| run.convicted.iter().map(move |it| (run, it))) {
         let said = vec![worth::kind(&it.kind).into(), format!("{}: {}", it.kind, sentence(&it.kind))];
         let who = vec![names.in_run(it.node, &run.nodes), format!("root {}", it.root)];
@@ -136,7 +136,7 @@ fn convicted(page: &mut Page, answer: &Answer, names: &Names, file: &Path) {
         return;
     }
     let ids: Vec<String> = answer.runs.iter().map(|run| run.run_id.clone()).collect();
-    let command = |(general, (_, node, run)): (u32, (bool, u32, &Run))| {
+    let command = |(general, (_, node, run)): (u32, (bool, u32, &JudgedRun))| {
         super::commands(general, run.number.map(|_| node), &run.run_id, &ids, file)
     };
     page.head("Who is convicted, and what that is worth");

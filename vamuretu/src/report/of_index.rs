@@ -10,9 +10,9 @@ use super::page::{Field, Page};
 use super::{close, commands, counted, moment, sentence, sentences, signing, worth, Names, Report};
 use crate::archive::digest_line;
 use crate::archive::files;
-use crate::archive::read::{Digest, Found, Kept, Question, Reader, Who};
+use crate::archive::read::{Digest, Found, Question, Reader, RunFile, Who};
 use crate::archive::room::Rooms;
-use crate::index::{Run, Verdict};
+use crate::index::{JudgedRun, Verdict};
 use crate::text::{quoted, spelled};
 use crate::watch::judge::digest;
 use crate::End;
@@ -29,14 +29,14 @@ const MOST_NUMBERS: usize = 60;
 const DIGITS: usize = 16;
 
 /// What an index has, as far as a page tells it.
-struct Told {
-    runs: Vec<Kept>,
+struct Contents {
+    runs: Vec<RunFile>,
     convicted: Vec<Found>,
     gaps: Vec<Found>,
     bounds: Option<(u32, u32)>,
     states: BTreeMap<u32, State>,
     /// The rows that are no runs of a yes without a conviction.
-    odd: Vec<Kept>,
+    odd: Vec<RunFile>,
     digests: Vec<Digest>,
     /// Whether there are runs without a number, though nothing gives numbers.
     is_numberless: bool,
@@ -75,8 +75,8 @@ fn called(number: u32, nodes: &[u32], names: &Names) -> String {
     names.in_run(number, nodes)
 }
 
-impl Told {
-    fn read(reader: &Reader, asked: &Report) -> Result<Told, End> {
+impl Contents {
+    fn read(reader: &Reader, asked: &Report) -> Result<Contents, End> {
         let runs = reader.kept(|it| !it.is_gone())?;
         let bounds = reader.bounds(asked.range)?;
         let gaps = if bounds.is_some() { reader.ask(Question::Gaps, asked.range)? } else { vec![] };
@@ -93,14 +93,14 @@ impl Told {
                 *worst = (*worst).max(state_of(run));
             }
         }
-        let is_odd = |it: &Kept| {
+        let is_odd = |it: &RunFile| {
             it.is_there() && is_own(it.number()) && it.run.as_ref().is_some_and(|run| state_of(run) > State::Agreed)
         };
         let odd = runs.iter().filter(|it| is_odd(it)).cloned().collect();
         let is_numberless = !reader.has_admissions && there().any(|run| run.number.is_none());
         let above = asked.of.parent().map(Path::to_owned).unwrap_or_default();
         let (digests, folder) = (reader.digests()?, asked.folder.clone().unwrap_or(above));
-        Ok(Told { runs, convicted, gaps, bounds, states, odd, digests, is_numberless, folder })
+        Ok(Contents { runs, convicted, gaps, bounds, states, odd, digests, is_numberless, folder })
     }
 
     fn count(&self, verdict: Verdict) -> usize {
@@ -114,7 +114,7 @@ impl Told {
     }
 }
 
-fn state_of(run: &Run) -> State {
+fn state_of(run: &JudgedRun) -> State {
     match run.verdict {
         _ if !run.convicted.is_empty() => State::Convicted,
         Verdict::Agreed if run.speaks() => State::Agreed,
@@ -145,7 +145,7 @@ fn check_pin(asked: &Report, reader: &Reader) -> Result<(), End> {
 pub fn page(asked: &Report, names: &Names) -> Result<Page, End> {
     let reader = Reader::open(&asked.of)?;
     check_pin(asked, &reader)?;
-    let told = Told::read(&reader, asked)?;
+    let told = Contents::read(&reader, asked)?;
     let mut page = Page::new("Report on an archive of runs");
     let others = [Question::Faults, Question::Doubles, Question::Unknown, Question::EqualRoots, Question::Changed];
     let others = others.map(|question| reader.ask(question, asked.range));
@@ -183,7 +183,7 @@ pub fn page(asked: &Report, names: &Names) -> Result<Page, End> {
 }
 
 /// How runs get their numbers, if they have none.
-fn numberless(page: &mut Page, told: &Told, index: &Path) {
+fn numberless(page: &mut Page, told: &Contents, index: &Path) {
     if told.is_numberless {
         page.verdict(false, &[worth::NUMBERLESS]);
         page.code(&format!("vamuretu archive add {} --system ID --admissions FOLDER", quoted(index)));
@@ -192,7 +192,7 @@ fn numberless(page: &mut Page, told: &Told, index: &Path) {
 
 /// What a reader takes away: who is convicted in which runs, a line each, and what else there is. Over runs that no admission shows
 /// nothing is added up.
-fn in_short(page: &mut Page, told: &Told, names: &Names, counts: &[(&str, &Vec<Found>)]) {
+fn in_short(page: &mut Page, told: &Contents, names: &Names, counts: &[(&str, &Vec<Found>)]) {
     let mut by: BTreeMap<&Who, Vec<&Found>> = BTreeMap::new();
     for it in &told.convicted {
         it.who.iter().for_each(|who| by.entry(who).or_default().push(it));
@@ -215,7 +215,7 @@ fn in_short(page: &mut Page, told: &Told, names: &Names, counts: &[(&str, &Vec<F
 }
 
 /// How many runs were judged, and how many are missing.
-fn sums(told: &Told) -> String {
+fn sums(told: &Contents) -> String {
     let all = told.runs.iter().filter(|it| it.is_there()).count();
     let (judged, agreed) = (counted(all, "run was judged", "runs were judged"), told.count(Verdict::Agreed));
     let bounds = told.bounds.map_or_else(String::new, |(first, last)| {
@@ -250,7 +250,7 @@ fn convicted_in(who: &Who, found: &[&Found], names: &Names) -> String {
 }
 
 /// How much there is of everything.
-fn counts_of(page: &mut Page, told: &Told, counts: &[(&str, &Vec<Found>)]) {
+fn counts_of(page: &mut Page, told: &Contents, counts: &[(&str, &Vec<Found>)]) {
     page.head("All that was found");
     let row = |it: Verdict| {
         let said = vec![worth::verdict(it).into(), format!("{it}: {}", sentence(it.word()))];
@@ -264,7 +264,7 @@ fn counts_of(page: &mut Page, told: &Told, counts: &[(&str, &Vec<Found>)]) {
 }
 
 /// Who is convicted: a row for each node and kind, and the commands by which others check it.
-fn convictions(page: &mut Page, told: &Told, names: &Names) {
+fn convictions(page: &mut Page, told: &Contents, names: &Names) {
     page.head("Who is convicted, and what that is worth");
     if told.convicted.is_empty() {
         page.text("Nobody.");
@@ -316,7 +316,7 @@ fn runs_of(found: &[&Found]) -> Vec<String> {
 }
 
 /// The commands by which others check a conviction.
-fn commands_of(found: &Found, told: &Told) -> String {
+fn commands_of(found: &Found, told: &Contents) -> String {
     let run = found.run_id.as_deref().unwrap_or_default();
     if let Some(evidence) = &found.evidence {
         return format!("sm_tool evidence --run {} {}", quoted(run), quoted(&told.folder.join(evidence)));
@@ -344,7 +344,7 @@ fn is_kept(folder: &Path, file: &Digest) -> &'static str {
 }
 
 /// All evidence that a watcher has stored.
-fn evidence(page: &mut Page, told: &Told, names: &Names) {
+fn evidence(page: &mut Page, told: &Contents, names: &Names) {
     let stored = || told.digests.iter().filter_map(|it| it.evidence.as_ref().map(|of| (it, of)));
     if stored().next().is_none() {
         return;
@@ -371,14 +371,14 @@ fn evidence(page: &mut Page, told: &Told, names: &Names) {
 }
 
 /// Runs that are not agreed, or in which too few nodes speak, with what was found and whom that names.
-fn verdicts(page: &mut Page, told: &Told, names: &Names) {
+fn verdicts(page: &mut Page, told: &Contents, names: &Names) {
     let runs = told.odd.iter().filter_map(|it| it.run.as_ref());
-    let odd: Vec<&Run> = runs.filter(|run| run.verdict != Verdict::Agreed || !run.speaks()).collect();
+    let odd: Vec<&JudgedRun> = runs.filter(|run| run.verdict != Verdict::Agreed || !run.speaks()).collect();
     if odd.is_empty() {
         return;
     }
     page.head("Runs that are not agreed, or in which too few nodes speak");
-    let row = |run: &&Run| {
+    let row = |run: &&JudgedRun| {
         let nodes = |these: &[u32]| Field::Lines(these.iter().map(|node| called(*node, &run.nodes, names)).collect());
         let few = (!run.speaks()).then(|| worth::few(run.speaking()));
         let findings = run.findings.iter().map(|line| format!("{line}: {}", sentences(line)));
@@ -438,7 +438,7 @@ fn section(
 }
 
 /// The runs without a file.
-fn gaps(page: &mut Page, told: &Told) {
+fn gaps(page: &mut Page, told: &Contents) {
     if told.gaps.is_empty() {
         return;
     }
@@ -454,7 +454,7 @@ fn gaps(page: &mut Page, told: &Told) {
 }
 
 /// The line of all runs.
-fn line_of_runs(page: &mut Page, told: &Told) {
+fn line_of_runs(page: &mut Page, told: &Contents) {
     let last = told.states.keys().next_back().copied();
     let Some((first, last)) = told.bounds.or(last.map(|last| (0, last))) else { return };
     let (head, words) = match told.bounds {
@@ -473,8 +473,8 @@ fn line_of_runs(page: &mut Page, told: &Told) {
 }
 
 /// Pictures of the first runs in which something was found, of files that are still as they were judged.
-fn pictures(page: &mut Page, told: &Told, names: &Names) {
-    let mut odd: Vec<(&Kept, &Run)> = told.odd.iter().filter_map(|it| Some((it, it.run.as_ref()?))).collect();
+fn pictures(page: &mut Page, told: &Contents, names: &Names) {
+    let mut odd: Vec<(&RunFile, &JudgedRun)> = told.odd.iter().filter_map(|it| Some((it, it.run.as_ref()?))).collect();
     odd.sort_by_key(|(_, run)| std::cmp::Reverse(state_of(run)));
     odd.dedup_by(|one, other| one.1.path == other.1.path);
     if !odd.is_empty() {
@@ -505,7 +505,7 @@ fn drawn(path: &Path, judged: Option<&String>) -> Result<String, String> {
 }
 
 /// Digests and versions.
-fn judged(page: &mut Page, reader: &Reader, told: &Told, asked: &Report) {
+fn judged(page: &mut Page, reader: &Reader, told: &Contents, asked: &Report) {
     page.head("What was judged, and by what");
     let mut by: BTreeMap<(&str, &str), (i64, i64)> = BTreeMap::new();
     for it in &told.runs {
@@ -540,7 +540,7 @@ fn judged(page: &mut Page, reader: &Reader, told: &Told, asked: &Report) {
 }
 
 /// How the digests are looked at again, and all of them.
-fn digests(page: &mut Page, told: &Told, asked: &Report) {
+fn digests(page: &mut Page, told: &Contents, asked: &Report) {
     page.text("The digests are those of this command, and its output by sha256sum is the digest above:");
     let export = format!("vamuretu archive export --digests {}", quoted(&asked.of));
     // An index of an archive has the whole paths of files, and that of a watcher has them from its folder on.

@@ -11,14 +11,14 @@ use serde_json::{json, Value};
 
 use super::index::{Alarm, Raised};
 use super::keep::Job;
-use crate::index::{Run, Verdict};
+use crate::index::{JudgedRun, Verdict};
 
 /// How long the program of an alarm may take.
 const MOST_TIME: Duration = Duration::from_secs(10);
 const STEP: Duration = Duration::from_millis(20);
 
 /// An alarm that is of a run. Its text is an object of JSON.
-fn of_run(kind: &'static str, run: &Run, node: Option<u32>, said: String) -> Raised {
+fn of_run(kind: &'static str, run: &JudgedRun, node: Option<u32>, said: String) -> Raised {
     let text = json!({
         "alarm": kind,
         "assumed_faulty": run.assumed_faulty,
@@ -47,14 +47,14 @@ fn is_same(one: &Raised, other: &Raised) -> bool {
 }
 
 /// The kinds of the alarms of a run that were raised by what was judged of it before, and that do not hold by what is judged.
-pub fn taken_back(run: &Run, most: usize, before: &Run) -> Vec<&'static str> {
+pub fn taken_back(run: &JudgedRun, most: usize, before: &JudgedRun) -> Vec<&'static str> {
     let (had, has) = (of(before, most, None), of(run, most, None));
     let is_over = |was: &&Raised| was.kind != "conviction" && !has.iter().any(|it| is_same(it, was));
     had.iter().filter(is_over).map(|was| was.kind).collect()
 }
 
 /// The alarm that takes another one of the same run back, of which the index has the place, unless it was made anew since.
-pub fn take_back(kind: &'static str, run: &Run, place: Option<i64>) -> Raised {
+pub fn take_back(kind: &'static str, run: &JudgedRun, place: Option<i64>) -> Raised {
     let mut raised =
         of_run("taken-back", run, None, format!("the alarm {kind} does not hold by the logs that are there now"));
     raised.text["taken_back"] = json!({ "alarm": kind, "place": place });
@@ -63,7 +63,7 @@ pub fn take_back(kind: &'static str, run: &Run, place: Option<i64>) -> Raised {
 
 /// The alarms of a run that was judged, planned for `most` faulty nodes. It names all who were ever convicted, as `before` does,
 /// which is what was judged of it before.
-pub fn of(run: &Run, most: usize, before: Option<&Run>) -> Vec<Raised> {
+pub fn of(run: &JudgedRun, most: usize, before: Option<&JudgedRun>) -> Vec<Raised> {
     let mut raised = vec![];
     for it in &run.convicted {
         let is_known =
@@ -152,16 +152,16 @@ mod tests {
     use crate::index::Conviction;
     use Verdict::*;
 
-    fn run(verdict: Verdict, assumed_faulty: &[u32], missing: &[u32]) -> Run {
-        Run { assumed_faulty: assumed_faulty.to_vec(), others: vec![], ..judged(5, verdict, missing) }
+    fn run(verdict: Verdict, assumed_faulty: &[u32], missing: &[u32]) -> JudgedRun {
+        JudgedRun { assumed_faulty: assumed_faulty.to_vec(), others: vec![], ..judged(5, verdict, missing) }
     }
 
     /// The same run, in which nodes are convicted.
-    fn with(run: Run, convicted: &[Conviction]) -> Run {
-        Run { convicted: convicted.to_vec(), ..run }
+    fn with(run: JudgedRun, convicted: &[Conviction]) -> JudgedRun {
+        JudgedRun { convicted: convicted.to_vec(), ..run }
     }
 
-    fn kinds(run: &Run, before: Option<&Run>) -> Vec<&'static str> {
+    fn kinds(run: &JudgedRun, before: Option<&JudgedRun>) -> Vec<&'static str> {
         of(run, 1, before).iter().map(|it| it.kind).collect()
     }
 
@@ -190,8 +190,8 @@ mod tests {
 
     #[test]
     fn what_takes_alarms_back() {
-        let over = |run: &Run, was: &Run| taken_back(run, 1, was);
-        let suspected = Run { others: vec![vec![3]], ..run(Agreed, &[2], &[]) };
+        let over = |run: &JudgedRun, was: &JudgedRun| taken_back(run, 1, was);
+        let suspected = JudgedRun { others: vec![vec![3]], ..run(Agreed, &[2], &[]) };
         let liar = with(run(Agreed, &[3], &[]), &[convicted(3, "K1")]);
         assert_eq!(over(&liar, &suspected), ["suspected"]);
         assert_eq!(over(&run(Agreed, &[1], &[]), &suspected), ["suspected"]);

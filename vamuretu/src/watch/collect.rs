@@ -14,7 +14,7 @@ use std::time::{Duration, Instant};
 use tokio::net::TcpListener;
 use tokio::sync::{Semaphore, SemaphorePermit};
 
-use super::index::{Kept, Packed};
+use super::index::{Arrival, Packed};
 use super::keep::{Job, Runs, Times};
 use super::{alarms, judge, Counts};
 use crate::clock::{self, Guard};
@@ -41,7 +41,7 @@ const FRONT: usize = 4;
 
 /// Why a message is refused.
 #[derive(Debug, Clone, Copy, PartialEq, Eq, Hash)]
-pub enum Refused {
+pub enum MessageRefused {
     /// No message that a node sends.
     Message,
     /// The system has no run of this number, or it has not begun.
@@ -54,27 +54,27 @@ pub enum Refused {
     TooMany,
 }
 
-impl Refused {
+impl MessageRefused {
     /// The reason as one word.
     pub fn word(self) -> &'static str {
         match self {
-            Refused::Message => "message",
-            Refused::Number => "number",
-            Refused::Bytes => "bytes",
-            Refused::Unsealed => "unsealed",
-            Refused::TooMany => "third",
+            MessageRefused::Message => "message",
+            MessageRefused::Number => "number",
+            MessageRefused::Bytes => "bytes",
+            MessageRefused::Unsealed => "unsealed",
+            MessageRefused::TooMany => "third",
         }
     }
 }
 
-impl fmt::Display for Refused {
+impl fmt::Display for MessageRefused {
     fn fmt(&self, to: &mut fmt::Formatter<'_>) -> fmt::Result {
         to.write_str(match self {
-            Refused::Message => "no message that a node sends",
-            Refused::Number => "the run has not begun, or is none of the system",
-            Refused::Bytes => "no compressed log, or a longer one than any node has",
-            Refused::Unsealed => "no log that the node has sealed in this run",
-            Refused::TooMany => "a third log of the node in this run",
+            MessageRefused::Message => "no message that a node sends",
+            MessageRefused::Number => "the run has not begun, or is none of the system",
+            MessageRefused::Bytes => "no compressed log, or a longer one than any node has",
+            MessageRefused::Unsealed => "no log that the node has sealed in this run",
+            MessageRefused::TooMany => "a third log of the node in this run",
         })
     }
 }
@@ -82,7 +82,7 @@ impl fmt::Display for Refused {
 /// Why a log was not kept.
 enum Failed {
     /// It is refused, of a run with this number if it has one.
-    Refused(Option<u32>, Refused),
+    MessageRefused(Option<u32>, MessageRefused),
     /// It is not the node's fault.
     Own(String),
 }
@@ -97,7 +97,7 @@ pub struct Door {
     pub counts: Arc<Counts>,
     pub jobs: SyncSender<Job>,
     /// When a reason of a node raised an alarm last.
-    pub alarmed: Mutex<HashMap<(u8, Refused), Instant>>,
+    pub alarmed: Mutex<HashMap<(u8, MessageRefused), Instant>>,
     /// What each node is looked at by, all of its connections together.
     pub turns: Vec<Turn>,
 }
@@ -175,7 +175,7 @@ async fn serve(door: Arc<Door>, shown: Shown) -> io::Result<()> {
             Err(told) => {
                 if told.kind() == io::ErrorKind::InvalidData {
                     let own = door.clone();
-                    tokio::task::spawn_blocking(move || own.refuse(node, None, Refused::Message)).await?;
+                    tokio::task::spawn_blocking(move || own.refuse(node, None, MessageRefused::Message)).await?;
                 }
                 return Err(told);
             }
@@ -186,8 +186,10 @@ async fn serve(door: Arc<Door>, shown: Shown) -> io::Result<()> {
         drop(permit);
         let (kind, number, word) = match looked {
             Ok(number) => (frames::ACKNOWLEDGED, number, ""),
-            Err(Failed::Refused(Some(number), why)) => (frames::REFUSED, number, why.word()),
-            Err(Failed::Refused(None, why)) => return Err(io::Error::new(io::ErrorKind::InvalidData, why.to_string())),
+            Err(Failed::MessageRefused(Some(number), why)) => (frames::REFUSED, number, why.word()),
+            Err(Failed::MessageRefused(None, why)) => {
+                return Err(io::Error::new(io::ErrorKind::InvalidData, why.to_string()))
+            }
             Err(Failed::Own(told)) => return Err(io::Error::new(io::ErrorKind::Other, told)),
         };
         let number = number.to_be_bytes();
@@ -202,19 +204,19 @@ impl Door {
         let number = message.body.get(..FRONT).and_then(|it| it.try_into().ok()).map(u32::from_be_bytes);
         let looked = match number.filter(|_| message.kind == frames::LOG) {
             Some(number) => self.keep(node.into(), number, &message.body[FRONT..]).map(|kept| (number, kept)),
-            None => Err(Failed::Refused(None, Refused::Message)),
+            None => Err(Failed::MessageRefused(None, MessageRefused::Message)),
         };
-        if let Err(Failed::Refused(number, why)) = looked {
+        if let Err(Failed::MessageRefused(number, why)) = looked {
             self.refuse(node, number, why);
         }
         let (number, kept) = looked?;
-        let word = if kept == Kept::New { "new" } else { "known" };
+        let word = if kept == Arrival::New { "new" } else { "known" };
         self.counts.logs.with_label_values(&[word]).inc();
         Ok(number)
     }
 
     /// Counts what was refused, has the node wait, and raises an alarm if there was none of this reason in the last minute.
-    fn refuse(&self, node: u8, number: Option<u32>, why: Refused) {
+    fn refuse(&self, node: u8, number: Option<u32>, why: MessageRefused) {
         self.counts.refused.with_label_values(&[why.word()]).inc();
         self.turns[usize::from(node)].pause().refused(Instant::now());
         let mut alarmed = self.alarmed.lock().unwrap_or_else(|told| told.into_inner());
@@ -227,23 +229,23 @@ impl Door {
     }
 
     /// Has a log kept, if it is one that the node has sealed.
-    fn keep(&self, node: u32, number: u32, packed: &[u8]) -> Result<Kept, Failed> {
-        let refused = |why| Failed::Refused(Some(number), why);
+    fn keep(&self, node: u32, number: u32, packed: &[u8]) -> Result<Arrival, Failed> {
+        let refused = |why| Failed::MessageRefused(Some(number), why);
         let look = self.guard.look();
         let latest = look.latest_ms.saturating_add(self.times.clock.bound_ms.into());
         let is_to_come = clock::beginning(number, &self.times.clock) > latest;
         if u64::from(number) >= self.runs.systems.runs() || is_to_come && look.wrong.is_none() {
-            return Err(refused(Refused::Number));
+            return Err(refused(MessageRefused::Number));
         }
         if is_to_come {
             return Err(Failed::Own("the clock is not to be believed now".into()));
         }
-        let bytes = judge::unpack(packed, self.longest).map_err(|_| refused(Refused::Bytes))?;
+        let bytes = judge::unpack(packed, self.longest).map_err(|_| refused(MessageRefused::Bytes))?;
         let run = self.runs.get(number).map_err(|End { line, .. }| Failed::Own(line))?;
         let general = run.general_of(node).ok_or_else(|| Failed::Own(format!("node {node} is in no run")))?;
         match judge::is_sealed(&run.header, general, &bytes) {
             Ok(true) => {}
-            Ok(false) => return Err(refused(Refused::Unsealed)),
+            Ok(false) => return Err(refused(MessageRefused::Unsealed)),
             Err(told) => return Err(Failed::Own(told.to_string())),
         }
         let (sha256, bytes) = (judge::digest(&bytes), bytes.len());
@@ -252,7 +254,7 @@ impl Door {
         let gone = || Failed::Own("nothing is kept now".into());
         self.jobs.send(Job::Keep(log, answer)).map_err(|_| gone())?;
         match answered.recv().map_err(|_| gone())? {
-            Kept::TooMany => Err(refused(Refused::TooMany)),
+            Arrival::TooMany => Err(refused(MessageRefused::TooMany)),
             kept => Ok(kept),
         }
     }

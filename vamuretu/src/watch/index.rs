@@ -14,7 +14,7 @@ use serde_json::{json, Value};
 
 use super::trust::BELIEVED;
 pub use crate::index::failed;
-use crate::index::{self, list, refused, text, unreadable, Asked, Run, Verdict, ANEW};
+use crate::index::{self, list, refused, text, unreadable, Asked, JudgedRun, Verdict, ANEW};
 
 /// How many different logs of one node and run are kept: two convict the node.
 pub const MOST_LOGS: usize = 2;
@@ -51,7 +51,7 @@ pub struct Packed {
 
 /// What became of a log that came.
 #[derive(Debug, Clone, Copy, PartialEq, Eq)]
-pub enum Kept {
+pub enum Arrival {
     /// It waits for its run.
     New,
     /// It was there before.
@@ -169,9 +169,9 @@ impl Index {
     }
 
     /// The run that was judged, with who is convicted by it.
-    pub fn run(&self, number: u32) -> Asked<Option<Run>> {
+    pub fn run(&self, number: u32) -> Asked<Option<JudgedRun>> {
         let mut asked = self.database.prepare_cached("SELECT * FROM runs WHERE source = 'watcher' AND number = ?")?;
-        asked.query_row([number], |row| Run::read(&self.database, row)).optional()
+        asked.query_row([number], |row| JudgedRun::read(&self.database, row)).optional()
     }
 
     /// The logs of a run that wait, by node and digest.
@@ -337,16 +337,16 @@ pub struct Part<'a>(&'a Transaction<'a>);
 
 impl Part<'_> {
     /// Keeps a log until its run is judged, unless it is known or two others of its node are.
-    pub fn keep(&self, log: &Packed, now: i64) -> Asked<Kept> {
+    pub fn keep(&self, log: &Packed, now: i64) -> Asked<Arrival> {
         let known = "SELECT sha256 FROM logs WHERE number = ? AND node = ?";
         let mut asked = self.0.prepare_cached(known)?;
         let digests = asked.query_map([log.number, log.node], |row| row.get(0))?;
         let digests: Vec<String> = digests.collect::<Asked<_>>()?;
         if digests.contains(&log.sha256) {
-            return Ok(Kept::Known);
+            return Ok(Arrival::Known);
         }
         if digests.len() >= MOST_LOGS {
-            return Ok(Kept::TooMany);
+            return Ok(Arrival::TooMany);
         }
         let (number, node, sha256) = (log.number, log.node, &log.sha256);
         self.0.execute(
@@ -354,12 +354,12 @@ impl Part<'_> {
             params![number, node, sha256, log.bytes, now],
         )?;
         self.0.execute("INSERT INTO waiting VALUES (?, ?, ?, ?)", params![number, node, sha256, log.packed])?;
-        Ok(Kept::New)
+        Ok(Arrival::New)
     }
 
     /// Writes down what was judged of a run by these logs, of which those that wait are dropped, each order that a log decides, and
     /// the files of the run. What was judged before moves to `changes`.
-    pub fn judged(&self, number: u32, run: &Run, logs: &[(&Log, Option<u32>)], stored: &[Stored]) -> Asked<()> {
+    pub fn judged(&self, number: u32, run: &JudgedRun, logs: &[(&Log, Option<u32>)], stored: &[Stored]) -> Asked<()> {
         let change = format!(
             "INSERT INTO changes (number, verdict, decided, assumed_faulty, missing, path, sha256, library, judged) {AS_CHANGE}"
         );
@@ -395,7 +395,7 @@ impl Part<'_> {
     }
 
     /// Writes down the files of a run, in the place of those before but for evidence.
-    fn stored(&self, number: u32, run: &Run, stored: &[Stored]) -> Asked<()> {
+    fn stored(&self, number: u32, run: &JudgedRun, stored: &[Stored]) -> Asked<()> {
         let gone = "DELETE FROM files WHERE source = 'watcher' AND number = ? AND holds <> 'evidence'";
         self.0.execute(gone, [number])?;
         for Stored { path, sha256, bytes, holds } in stored {
@@ -481,8 +481,8 @@ pub mod tests {
     }
 
     /// A run of four nodes that was judged.
-    pub fn run(number: u32, verdict: Verdict, missing: &[u32]) -> Run {
-        Run {
+    pub fn run(number: u32, verdict: Verdict, missing: &[u32]) -> JudgedRun {
+        JudgedRun {
             source: Source::Watcher,
             number: Some(number),
             run_id: "a".repeat(64),
@@ -519,10 +519,12 @@ pub mod tests {
     fn logs_wait_once() {
         let mut index = memory();
         let kept = |index: &mut Index, log: &Packed| index.in_one(|part| part.keep(log, 1)).expect("memory");
-        for (digest, wanted) in [("x", Kept::New), ("x", Kept::Known), ("y", Kept::New), ("z", Kept::TooMany)] {
+        for (digest, wanted) in
+            [("x", Arrival::New), ("x", Arrival::Known), ("y", Arrival::New), ("z", Arrival::TooMany)]
+        {
             assert_eq!(kept(&mut index, &packed(3, 1, digest)), wanted);
         }
-        assert_eq!(kept(&mut index, &packed(3, 0, "x")), Kept::New);
+        assert_eq!(kept(&mut index, &packed(3, 0, "x")), Arrival::New);
         let waiting = index.waiting(3).expect("logs");
         assert_eq!(waiting, [packed(3, 0, "x"), packed(3, 1, "x"), packed(3, 1, "y")]);
         assert_eq!(index.begun().expect("runs"), BTreeMap::from([(3, 2)]));
@@ -532,7 +534,7 @@ pub mod tests {
     fn what_was_judged_takes_the_place_of_logs() {
         let mut index = memory();
         index.in_one(|part| part.keep(&packed(3, 1, "x"), 1)).expect("memory");
-        let judged = Run { convicted: vec![convicted(1, "K1")], ..run(3, Verdict::Agreed, &[0, 2]) };
+        let judged = JudgedRun { convicted: vec![convicted(1, "K1")], ..run(3, Verdict::Agreed, &[0, 2]) };
         let stored =
             |name: &str, holds| Stored { path: format!("0/3.{name}"), sha256: "c".repeat(64), bytes: 5, holds };
         let bundle = Holds::Bundle { input: "b".repeat(64), bytes: 9 };
@@ -541,7 +543,7 @@ pub mod tests {
         index.in_one(|part| part.judged(3, &judged, &[(&log(3, 1, "x"), Some(1))], &files)).expect("memory");
         assert_eq!(index.run(3).expect("a row"), Some(judged.clone()));
         assert_eq!((index.waiting(3).expect("logs"), index.judged(0).expect("numbers")), (vec![], vec![3]));
-        assert_eq!(index.in_one(|part| part.keep(&packed(3, 1, "x"), 1)).expect("memory"), Kept::Known);
+        assert_eq!(index.in_one(|part| part.keep(&packed(3, 1, "x"), 1)).expect("memory"), Arrival::Known);
         let was = index.as_change(3).expect("a row").expect("a row");
         assert_eq!((was.verdict, was.order, &was.missing[..]), (Verdict::Agreed, Some(1), &[0, 2][..]));
         assert_eq!((was.path.as_deref(), was.sha256.clone()), (Some("0/3.bundle.zst"), Some("b".repeat(64))));

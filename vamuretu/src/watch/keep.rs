@@ -15,7 +15,9 @@ use std::time::{Duration, Instant};
 
 use sd_notify::NotifyState;
 
-use super::index::{failed, Alarm, Change, Holds, Index, Kept, Log, Packed, Raised, Stored, MOST_LOGS as LOGS_OF_NODE};
+use super::index::{
+    failed, Alarm, Arrival, Change, Holds, Index, Log, Packed, Raised, Stored, MOST_LOGS as LOGS_OF_NODE,
+};
 use super::judge::{self, Judged};
 use super::presence::{Presence, DOWN_AFTER};
 use super::rebuild::{self, Found, Rebuild};
@@ -24,7 +26,7 @@ use super::{alarms, Counts, MOST_ALARMS};
 use crate::clock::{self, Guard, Look};
 use crate::config::WatchFile;
 use crate::index::judged::roots_of;
-use crate::index::{Conviction, Run, Source, Verdict};
+use crate::index::{Conviction, JudgedRun, Source, Verdict};
 use crate::systems::{self, Systems};
 use crate::threads::side_by_side;
 use crate::{disk, End};
@@ -58,7 +60,7 @@ const CATCHING_UP_MS: i64 = 3_600_000;
 /// What the thread is asked for.
 pub enum Job {
     /// To keep a log, and to say what became of it once this is durable.
-    Keep(Packed, SyncSender<Kept>),
+    Keep(Packed, SyncSender<Arrival>),
     /// To raise an alarm.
     Raise(Raised),
     /// An alarm was told.
@@ -126,7 +128,7 @@ pub struct Case {
     pub run: Arc<systems::Run>,
     /// Each log with the number that its node has in the run, ascending by that and by the digest.
     pub logs: Vec<(u32, Log)>,
-    before: Option<Run>,
+    before: Option<JudgedRun>,
     /// Who is convicted by what was judged before, or by evidence that lay in the folder.
     convicted: Vec<Conviction>,
     /// What lay in the folder and was not in the index.
@@ -140,7 +142,7 @@ struct Open {
 }
 
 /// The row of a run, with its files.
-type Row = (Run, Vec<Stored>);
+type Row = (JudgedRun, Vec<Stored>);
 
 /// The thread's own.
 pub struct Keeper {
@@ -318,7 +320,7 @@ impl Keeper {
         self.told.clear();
         raised.iter().for_each(|alarm| self.counts.alarms.with_label_values(&[alarm.kind]).inc());
         for ((log, answer), kept) in logs.into_iter().zip(kept) {
-            if kept == Kept::New {
+            if kept == Arrival::New {
                 self.opened(&log, now);
             }
             let _ = answer.send(kept);
@@ -567,7 +569,7 @@ impl Keeper {
     }
 
     /// Counts a run that was judged.
-    fn count(&self, case: &Case, row: &Run, files: &[Stored]) {
+    fn count(&self, case: &Case, row: &JudgedRun, files: &[Stored]) {
         self.counts.runs.with_label_values(&[row.verdict.word()]).inc();
         self.counts.convictions.inc_by(row.convicted.len().saturating_sub(case.convicted.len()) as u64);
         for it in files {
@@ -579,13 +581,13 @@ impl Keeper {
     }
 
     /// The alarms of a run that was judged. A run that the index lacked raises none, since it has raised them before.
-    fn alarms_of(&self, case: &Case, row: &Run, presence: &mut Presence) -> io::Result<Vec<Raised>> {
+    fn alarms_of(&self, case: &Case, row: &JudgedRun, presence: &mut Presence) -> io::Result<Vec<Raised>> {
         if case.found.is_lost {
             return Ok(vec![]);
         }
         let (number, most) = (case.run.number, case.run.traitors as usize);
         // Evidence that lay in the folder was told of before.
-        let before = case.before.as_ref().map(|was| Run { convicted: case.convicted.clone(), ..was.clone() });
+        let before = case.before.as_ref().map(|was| JudgedRun { convicted: case.convicted.clone(), ..was.clone() });
         let mut raised = alarms::of(row, most, before.as_ref());
         raised.retain(|it| it.kind != "gap" || !self.rebuild.had(number));
         for kind in before.iter().flat_map(|before| alarms::taken_back(row, most, before)) {
@@ -660,7 +662,7 @@ fn presence_by(index: &Index, nodes: u32) -> io::Result<Presence> {
 }
 
 /// The path of the bundle of a run, if it has one.
-fn path_of(run: &Run) -> Option<&str> {
+fn path_of(run: &JudgedRun) -> Option<&str> {
     run.path.as_deref().and_then(Path::to_str)
 }
 
@@ -689,7 +691,7 @@ fn name_roots(case: &Case, convicted: &mut [Conviction]) -> io::Result<()> {
 }
 
 /// The row of a run that was judged, but for its file and who is convicted.
-fn row_of(case: &Case, judged: &Judged, now: i64) -> io::Result<Run> {
+fn row_of(case: &Case, judged: &Judged, now: i64) -> io::Result<JudgedRun> {
     let run = judged.answer.runs.first().ok_or_else(|| wrong("a bundle of no run"))?;
     let nodes = |list: &judge::List| {
         let mut nodes: Vec<u32> = list.iter().filter_map(|it| case.run.nodes.get(*it as usize).copied()).collect();
@@ -697,14 +699,14 @@ fn row_of(case: &Case, judged: &Judged, now: i64) -> io::Result<Run> {
         nodes
     };
     let others = judged.others.iter().map(nodes).collect();
-    Ok(Run { source: Source::Watcher, number: Some(case.run.number), others, judged: now, ..run.clone() })
+    Ok(JudgedRun { source: Source::Watcher, number: Some(case.run.number), others, judged: now, ..run.clone() })
 }
 
 /// The row of a run without logs.
-fn gap_of(case: &Case, now: i64) -> Run {
+fn gap_of(case: &Case, now: i64) -> JudgedRun {
     let mut nodes = case.run.nodes.clone();
     nodes.sort_unstable();
-    Run {
+    JudgedRun {
         source: Source::Watcher,
         number: Some(case.run.number),
         run_id: hex::encode(case.run.run_id),

@@ -4,7 +4,7 @@ use prometheus::IntGaugeVec;
 
 use super::alarms;
 use super::index::Raised;
-use crate::index::{Run, Verdict};
+use crate::index::{JudgedRun, Verdict};
 
 /// In how many runs one behind another no log of a node comes before it is down.
 pub const DOWN_AFTER: u32 = 10;
@@ -64,7 +64,7 @@ impl Presence {
 
     /// Learns of a run that was judged, perhaps again, and tells which alarms that raises. A run behind a later one tells
     /// only who is there.
-    pub fn learn(&mut self, run: &Run, before: Option<&Run>) -> Vec<Raised> {
+    pub fn learn(&mut self, run: &JudgedRun, before: Option<&JudgedRun>) -> Vec<Raised> {
         let is_later = before.is_none() && run.number > self.last;
         self.last = self.last.max(run.number);
         let mut raised = vec![];
@@ -94,7 +94,7 @@ mod tests {
     use super::super::index::tests::run as judged;
     use super::*;
 
-    fn run(number: u32, missing: &[u32]) -> Run {
+    fn run(number: u32, missing: &[u32]) -> JudgedRun {
         judged(number, Verdict::Agreed, missing)
     }
 
