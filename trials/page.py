@@ -59,6 +59,8 @@ PICTURE = os.environ.get("PAGE_PICTURE")
 # The least contrast between text and what is behind it, by WCAG 2, level AA.
 CONTRAST = 4.5
 NARROW = 320
+# What the page says of the message of examples/disputed.bundle that only one log has.
+DISPUTE = "The log of general 0 says that it sent general 2 order 1 in round 1. The log of general 2 does not say that it came."
 # Browsers that lack something, each made of this one by a script, with what the page then says of a file.
 LACKING = {
     "64-bit memories": ("WebAssembly.validate = () => false;"
@@ -631,6 +633,8 @@ def try_answers_of(program, shown, given, tally, folder):
     files = named_files(program)
     told = given.give(shown.drop, files)
     try_answers(told, tally)
+    is_there = shown.run(f"document.getElementById('answers').textContent.includes({json.dumps(DISPUTE)})")
+    tally.hold("whose log has the message", None if is_there else "it is not said")
     try_facts(program, told, files, tally)
     links = {"split.bundle.0.evidence": read(EXAMPLES, "split.evidence")}
     drawn = [name[:-4] for name in os.listdir(EXAMPLES) if name.endswith(".svg") and f"{name[:-4]}.bundle" in told]

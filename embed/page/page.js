@@ -250,15 +250,16 @@ const partedIn = (run, pair) => (pair ? [made("p", "warning", `No walk: ${genera
   + "this list.")] : []);
 
 // The runs of a file, each with its numbers and its generals.
-function runsIn({ kind, file, verdicts, parted = [] }) {
-  const alone = file.runs.length === 1;
+function runsIn({ kind, file, verdicts, text, parted = [] }) {
+  const alone = file.runs.length === 1, disputes = disputesIn(text, file.runs);
   return file.runs.filter(it => it.id).flatMap((run, place) => {
     const name = alone ? "The run" : isAboutEvidence(kind) ? `Run of the ${place ? "second" : "first"} text` : `Run ${place}`;
     const verdict = verdicts[place], look = verdict ? lookOf(outcomeOfRun(run, verdict), { verdicts: [verdict] }) : "";
     const said = verdict ? `${name}: ${verdict.verdict}` : name;
     const label = alone ? "The generals" : `The generals of run ${place}`;
     const table = run.faulty ? [generalsTable(run, verdicts[place], label)] : [];
-    return [made("h3", look, said), ...equalRootsIn(run), ...partedIn(run, parted[place]), ...table, runFacts(run)];
+    return [made("h3", look, said), ...equalRootsIn(run), ...partedIn(run, parted[place]),
+      ...disputes[place].map(it => made("p", "warning", it)), ...table, runFacts(run)];
   });
 }
 
