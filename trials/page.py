@@ -421,9 +421,9 @@ SPLIT = [["0", "K2", "1", "yes", "49,601 bytes", "18fbddbba9d556d0…"], ["1", "
          ["2", "no", "0", "no", "82,629 bytes", "985170cbf04d3a61…"]]
 UNJUDGED = [[row[0], "not judged", *row[2:]] for row in SPLIT]
 SIDES = {
-    "split.evidence": [["Signed first in the file", "statement round 1 order 0 path 0", "in this run"],
-                       ["Signed besides", "statement round 1 order 1 path 0", "in this run"]],
-    "explained.0.evidence": [["Signed", "statement round 1 order 1 path 0"],
+    "split.evidence": [["Signed first in the file", "order 0, signed by general 0, for round 1", "in this run"],
+                       ["Signed besides", "order 1, signed by general 0, for round 1", "in this run"]],
+    "explained.0.evidence": [["Signed", "order 1, signed by general 0, for round 1"],
                              ["Lacks it", "A log of 2 entries, which the accused sealed.", "It has no such SIGN."]],
 }
 
@@ -646,10 +646,11 @@ def try_answers_of(program, shown, given, tally, folder):
 
 
 def take_picture(shown, given):
-    """Writes what the page says of a bundle whose proposer is convicted, as docs/pictures/page.png, where PICTURE names that file."""
+    """Writes what the page says of a bundle whose proposer is convicted, down to the picture, as docs/pictures/page.png, where PICTURE
+    names that file."""
     if PICTURE:
         given.take(lambda paths: shown.choose("#file", paths), {"split.bundle": read(EXAMPLES, "split.bundle")})
-        shown.shot(PICTURE)
+        shown.shot(PICTURE, "article", "article .picture")
 
 
 def try_page(program, page, bases, tally, folder, shown):

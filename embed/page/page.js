@@ -255,16 +255,24 @@ function runsIn({ kind, file, verdicts, text, parted = [] }) {
   return file.runs.filter(it => it.id).flatMap((run, place) => {
     const name = alone ? "The run" : isAboutEvidence(kind) ? `Run of the ${place ? "second" : "first"} text` : `Run ${place}`;
     const verdict = verdicts[place], look = verdict ? lookOf(outcomeOfRun(run, verdict), { verdicts: [verdict] }) : "";
-    const said = verdict ? `${name}: ${verdict.verdict}` : name;
+    const said = verdict ? `${alone ? "The verdict" : name}: ${verdict.verdict}` : name;
     const label = alone ? "The generals" : `The generals of run ${place}`;
     const table = run.faulty ? [generalsTable(run, verdicts[place], label)] : [];
     return [made("h3", look, said), ...equalRootsIn(run), ...partedIn(run, parted[place]),
-      ...disputes[place].map(it => made("p", "warning", it)), ...table, runFacts(run)];
+      ...disputes[place].map(it => made("p", "dispute", it)), ...table, runFacts(run)];
   });
 }
 
 // Whether an answer is on evidence, or on a log that answers evidence.
 const isAboutEvidence = kind => kind === "evidence" || kind === "reply";
+
+// A signed text: of a statement the order, who signed it one after another, and the round; of a head the end of a log.
+function signedText(said) {
+  const found = /^statement round (\d+) order (\d+) path (.*)$/.exec(said);
+  if (!found) return said;
+  const [, round, order, path] = found, by = path.replaceAll(",", ", then ");
+  return `order ${order}, signed by ${path.includes(",") ? "generals" : "general"} ${by}, for round ${round}`;
+}
 
 // What stands on one side of evidence.
 const sideOf = (name, ...said) => made("section", "side", made("h4", "", name), ...said.map(it => made("p", "long", it)));
@@ -274,10 +282,10 @@ function sidesOf({ texts, runs, departs, kind }) {
   const log = runs[0]?.logs[0];
   const run = text => (kind.number === 5 ? `in run ${runs[text.place].id}` : "in this run");
   if (texts.length === 2) {
-    return texts.map(it => sideOf(it.name === "first" ? "Signed first in the file" : "Signed besides", it.said, run(it)));
+    return texts.map(it => sideOf(it.name === "first" ? "Signed first in the file" : "Signed besides", signedText(it.said), run(it)));
   }
   const sealed = `A log of ${several(log.entries.length, "entry", "entries")}, which the accused sealed.`;
-  if (texts.length) return [sideOf("Signed", texts[0].said), sideOf("Lacks it", sealed, "It has no such SIGN.")];
+  if (texts.length) return [sideOf("Signed", signedText(texts[0].said)), sideOf("Lacks it", sealed, "It has no such SIGN.")];
   const due = "An entry that the algorithm asks for is missing before it, or stands in no such form here.";
   return [sideOf("Sealed", sealed), sideOf("Departs from here on", log.entries[departs] ?? `entry ${departs}`, due)];
 }
