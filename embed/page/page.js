@@ -357,6 +357,14 @@ function offered(evidence, name) {
   return [made("h3", "", "Evidence to hand on"), list];
 }
 
+// The words that the pointer finds in a picture, for a keyboard, a reader of screens and paper.
+function wordsOf(picture) {
+  const said = [...picture.querySelectorAll("title")].map(it => it.textContent);
+  const list = made("ul", "", ...said.slice(0, EXPLAINED).map(it => made("li", "", it)));
+  if (said.length > EXPLAINED) list.append(made("li", "", `${spell(said.length - EXPLAINED)} more stand in the picture.`));
+  return said.length ? [made("details", "", made("summary", "", "The words of the picture"), list)] : [];
+}
+
 // The picture, in a tree of its own, so that its style stays within.
 function pictured(picture, name) {
   if (!picture) return [];
@@ -364,7 +372,8 @@ function pictured(picture, name) {
   const tree = made("div", "");
   tree.attachShadow({ mode: "open" }).append(document.importNode(read.documentElement, true));
   const link = saving("Save the picture", `${name}.svg`, picture, "image/svg+xml");
-  return [made("h3", "", "The picture"), framed("picture", `Picture of ${name}`, tree), made("p", "", link)];
+  return [made("h3", "", "The picture"), framed("picture", `Picture of ${name}`, tree), made("p", "", link),
+    ...wordsOf(read)];
 }
 
 // What the text of the answer is.
