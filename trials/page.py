@@ -635,6 +635,9 @@ def try_answers_of(program, shown, given, tally, folder):
     try_answers(told, tally)
     is_there = shown.run(f"document.getElementById('answers').textContent.includes({json.dumps(DISPUTE)})")
     tally.hold("whose log has the message", None if is_there else "it is not said")
+    listed = shown.run("[...document.querySelectorAll('details li')].map(it => it.textContent)")
+    is_there = "from 0 to 2 round 1 order 1 path 0: only the log of 0 has it" in listed
+    tally.hold("the words of a picture", None if is_there else f"{listed[:5]}")
     try_facts(program, told, files, tally)
     links = {"split.bundle.0.evidence": read(EXAMPLES, "split.evidence")}
     drawn = [name[:-4] for name in os.listdir(EXAMPLES) if name.endswith(".svg") and f"{name[:-4]}.bundle" in told]
