@@ -47,6 +47,7 @@ KEPT = [
     "crates/docs/PROMISES.md",
     "crates/docs/ROWS.md",
     "docs/SYSTEM.md",
+    "crates/docs/VIEWS.md",
     "docs/WALK.md",
     "docs/WORDS.md",
     "edits/README.md",
