@@ -8,8 +8,8 @@
 The pages are the files *.md that git knows, or all of them where there is no git, as in a copy. Words are counted as `wc -w` does,
 and a minute has 200 of them. A time in docs/README.md stands in brackets behind the link to its page, as `[WALK](WALK.md) (30 min)`,
 and is rounded up. With --check it prints nothing, and its status is 0, where each time is right, and the pages for those who use
-Vamuretu have at most 75,000 words. Pages below crates/, edits/, trials/, bench/ and embed/page/ are for those who change the proofs
-and the code, and have no bound.
+Vamuretu have at most 75,000 words. Pages below crates/, edits/, trials/, bench/ and embed/page/, and docs/ARCHITECTURE.md, are for
+those who change the proofs and the code, and have no bound.
 """
 import pathlib
 import re
@@ -17,8 +17,8 @@ import subprocess
 import sys
 
 WORDS_A_MINUTE, MOST_WORDS = 200, 75_000
-# The folders whose pages are for those who change the proofs and the code.
-OF_MAINTAINERS = ("crates/", "edits/", "trials/", "bench/", "embed/page/")
+# How the paths of pages begin that are for those who change the proofs and the code.
+OF_MAINTAINERS = ("crates/", "edits/", "trials/", "bench/", "embed/page/", "docs/ARCHITECTURE.md")
 MAP = pathlib.Path("docs/README.md")
 TIME = re.compile(r"(\]\(([^)#\s]+\.md)\) \()(\d+)( min\))")
 
