@@ -132,14 +132,14 @@ def watcher(lab):
     with one_clock(lab, WATCHER) as made:
         goes_on(made, 4, "before")
         made.set_clock(WATCHER, 600_000)
-        trusted = "vamuretu_watch_clock_trusted"
-        await_that(lambda: made.counts(WATCHER)[trusted] == 0, "the watcher does not believe its clock", 10)
+        believed = "vamuretu_watch_clock_believed"
+        await_that(lambda: made.counts(WATCHER)[believed] == 0, "the watcher does not believe its clock", 10)
         goes_on(made, 8, "while the watcher's clock is ahead")
         judged_now(made)
         status = json.loads(run(made.program, ["status", made.watcher.config]).wrote)
         wants("ahead" in (status["waits_for"] or ""), f"the status {status}")
         made.set_clock(WATCHER, 0)
-        await_that(lambda: made.counts(WATCHER)[trusted] == 1, "the watcher believes its clock", 10)
+        await_that(lambda: made.counts(WATCHER)[believed] == 1, "the watcher believes its clock", 10)
         last = goes_on(made, 4, "afterwards")
         made.watcher.await_runs(last)
         judged_now(made)

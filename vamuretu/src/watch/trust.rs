@@ -25,7 +25,7 @@ impl Trust {
     /// Looks at the clock. Tells an alarm, if it is believed no more, or again.
     pub fn look(&mut self, counts: &Counts) -> (Look, Option<Raised>) {
         let look = self.guard.look();
-        counts.clock_trusted.set(look.wrong.is_none().into());
+        counts.clock_believed.set(look.wrong.is_none().into());
         counts.clock_ahead.set(look.ahead_ms / 1000);
         let said = look.wrong.map_or_else(|| BELIEVED.into(), |wrong| wrong.to_string());
         if said == self.said {
