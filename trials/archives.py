@@ -342,7 +342,7 @@ class Looked(html.parser.HTMLParser):
 
 
 # What a page says of the message of examples/disputed.bundle that only one log has.
-DISPUTE = "The log of general 0 says that it sent general 2 order 1 in round 1. The log of general 2 does not say that it came."
+DISPUTE = "The log of general 0 says that general 0 sent general 2 order 1 in round 1. The log of general 2 does not say that this came."
 
 
 def page_of(index, *words):

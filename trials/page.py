@@ -60,7 +60,7 @@ PICTURE = os.environ.get("PAGE_PICTURE")
 CONTRAST = 4.5
 NARROW = 320
 # What the page says of the message of examples/disputed.bundle that only one log has.
-DISPUTE = "The log of general 0 says that it sent general 2 order 1 in round 1. The log of general 2 does not say that it came."
+DISPUTE = "The log of general 0 says that general 0 sent general 2 order 1 in round 1. The log of general 2 does not say that this came."
 # Browsers that lack something, each made of this one by a script, with what the page then says of a file.
 LACKING = {
     "64-bit memories": ("WebAssembly.validate = () => false;"

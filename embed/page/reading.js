@@ -59,9 +59,9 @@ function disputeIn({ logs }, said, from, to) {
   const [round, order] = said.split(" ").slice(-3).filter(it => it !== "order"), message = `order ${order} in round ${round}`;
   const sent = hasIt(from, "send"), came = hasIt(to, "recv");
   if (sent && came) return `The logs of generals ${from} and ${to} have ${message} with different paths.`;
-  const ours = sent ? `The log of general ${from} says that it sent general ${to} ${message}`
+  const ours = sent ? `The log of general ${from} says that general ${from} sent general ${to} ${message}`
     : `The log of general ${to} says that ${message} came from general ${from}`;
-  return `${ours}. The log of general ${sent ? `${to} does not say that it came` : `${from} does not say that it was sent`}.`;
+  return `${ours}. The log of general ${sent ? `${to} does not say that this came` : `${from} does not say that this was sent`}.`;
 }
 
 // Of each run what is said of the messages on which two logs disagree, by the text of the verdict.

@@ -64,10 +64,10 @@ impl Ends {
     fn said(self, from: u32, to: u32, message: &str) -> String {
         match (self.sent, self.came) {
             (true, false) => format!(
-                "The log of general {from} says that it sent general {to} {message}. The log of general {to} does not say that it came."
+                "The log of general {from} says that general {from} sent general {to} {message}. The log of general {to} does not say that this came."
             ),
             (false, _) => format!(
-                "The log of general {to} says that {message} came from general {from}. The log of general {from} does not say that it \
+                "The log of general {to} says that {message} came from general {from}. The log of general {from} does not say that this \
                  was sent."
             ),
             (true, true) => format!("The logs of generals {from} and {to} have {message} with different paths."),
@@ -91,8 +91,8 @@ mod tests {
         assert_eq!(
             messages.said(1, &findings),
             [
-                "The log of general 0 says that it sent general 2 order 1 in round 1. The log of general 2 does not say that it came.",
-                "The log of general 2 says that order 1 in round 2 came from general 1. The log of general 1 does not say that it was \
+                "The log of general 0 says that general 0 sent general 2 order 1 in round 1. The log of general 2 does not say that this came.",
+                "The log of general 2 says that order 1 in round 2 came from general 1. The log of general 1 does not say that this was \
                  sent."
             ]
         );
