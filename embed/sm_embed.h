@@ -115,10 +115,10 @@ enum sm_verdict { SM_VERDICT_AGREED = 1, SM_VERDICT_EXPLAINED = 2, SM_VERDICT_NO
 
 /* The status of a general in a verdict: the first of these that fits. */
 enum sm_general_status {
-    SM_GENERAL_CONVICTED = 1, /* a conviction of this run names it */
-    SM_GENERAL_HELD = 2,      /* it is assumed faulty */
-    SM_GENERAL_SUSPECTED = 3, /* a finding N1 to N9 names it */
-    SM_GENERAL_TRUSTED = 4    /* none of these */
+    SM_GENERAL_CONVICTED = 1,      /* a conviction of this run names it */
+    SM_GENERAL_ASSUMED_FAULTY = 2, /* it is assumed faulty */
+    SM_GENERAL_SUSPECTED = 3,      /* a finding N1 to N9 names it */
+    SM_GENERAL_NOTHING_FOUND = 4   /* none of these */
 };
 
 /* One fact of an answer. `kind` is an sm_fact_kind, `run` the place of the run in its campaign, counted from 0, and a

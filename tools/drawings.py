@@ -2,7 +2,7 @@
 """Draws the pictures of docs/pictures/ from the tables of tools/drawings/, where no text overlaps anything.
 
     python3 tools/drawings.py            makes each docs/pictures/NAME.svg of tools/drawings/NAME.txt, at the top of the repository
-    python3 tools/drawings.py --check    names each picture that isn't what its table makes, or that overlaps
+    python3 tools/drawings.py --check    names each picture that isn't what its table makes, that overlaps, or that is pale
 
 A table has a line for each part. Behind `|` stand lines of text, of which one that begins with * is a heading:
 
@@ -14,8 +14,9 @@ A table has a line for each part. Behind `|` stand lines of text, of which one t
     line CLASS END END ..                the same without a head
     text CLASS X Y ANCHOR | TEXT         the anchor is start, middle or end, and Y is the base of the text
 
-The widths of texts are those of a wide font, roughly, so that other fonts have room. With --check it prints nothing, and its
-status is 0, where all is as it should be.
+The widths of texts are those of a wide font, roughly, so that other fonts have room. Each text has a contrast of at least 4.5 to 1
+to what is behind it, and each line one of 3 to 1, in the light and in the dark. With --check it prints nothing, and its status is 0,
+where all is as it should be.
 """
 import pathlib
 import re
@@ -44,7 +45,9 @@ COLOURS = {
     "tried": (("#9a5b00", "#fbf2e3"), ("#e69f00", "#33270f")),
     "wrong": (("#d40000", "#fdecec"), ("#ff6a5a", "#3a1818")),
 }
-PAGES, INKS = ("#fff", "#16181d"), ("#1b1b1b", "#eee")
+PAGES, INKS = ("#ffffff", "#16181d"), ("#1b1b1b", "#eeeeee")
+# The least contrasts of texts and of lines to what is behind them, as WCAG 2 counts them.
+OF_TEXTS, OF_LINES = 4.5, 3
 
 
 # Reading a table.
@@ -154,6 +157,41 @@ def overlaps(picture):
                 yield f"box {name}: over {other}"
 
 
+# What is pale.
+
+
+def light_of(colour):
+    """The relative luminance of a colour."""
+    parts = [int(colour[at : at + 2], 16) / 255 for at in (1, 3, 5)]
+    red, green, blue = (it / 12.92 if it <= 0.04045 else ((it + 0.055) / 1.055) ** 2.4 for it in parts)
+    return 0.2126 * red + 0.7152 * green + 0.0722 * blue
+
+
+def contrast(one, other):
+    low, high = sorted(map(light_of, (one, other)))
+    return (high + 0.05) / (low + 0.05)
+
+
+def behind(area, picture, scheme):
+    """The colour behind an area: that of the last box with a colour that is around it, or else that of the page."""
+    fills = [COLOURS[it.kind][scheme][1] for it in picture.boxes if is_inside(area, area_of_box(it))]
+    return ([PAGES[scheme]] + [it for it in fills if it != "none"])[-1]
+
+
+def pale(picture):
+    """What is pale in a picture, a line for each."""
+    for scheme, name in enumerate(("light", "dark")):
+        for it in picture.texts:
+            kind = it.kind.split()[0]
+            ratio = contrast(INKS[scheme] if kind == "ink" else COLOURS[kind][scheme][0], behind(area_of(it), picture, scheme))
+            if ratio < OF_TEXTS:
+                yield f"{it.words}: a contrast of {ratio:.2f} in the {name}"
+        for kind in sorted({it.kind for it in [*picture.boxes, *picture.lines]}):
+            ratio = contrast(COLOURS[kind][scheme][0], PAGES[scheme])
+            if ratio < OF_LINES:
+                yield f"lines of {kind}: a contrast of {ratio:.2f} in the {name}"
+
+
 # Drawing.
 
 
@@ -207,7 +245,7 @@ def svg_of(picture):
 def wrong_in(table):
     """What is wrong with the picture of a table."""
     picture, path = read_picture(table), PICTURES / f"{table.stem}.svg"
-    yield from (f"{table}: {it}" for it in overlaps(picture))
+    yield from (f"{table}: {it}" for it in [*overlaps(picture), *pale(picture)])
     if not path.is_file() or path.read_text(encoding="utf-8") != svg_of(picture):
         yield f"{path} is not the picture of {table}: run tools/drawings.py"
 

@@ -4,8 +4,9 @@
     tools/man.py            writes it
     tools/man.py --check    only says whether it is the one that the document makes; else the status is 1
 
-The document is Markdown of a few forms: headings, paragraphs, lists, tables, and lines that are indented by four spaces. The
-version is that of tools/version.py. The last sentence says where an installed system has the other documents.
+The document is Markdown of a few forms: headings, paragraphs, lists, tables, and lines that are indented by four spaces. Lines
+that say how a command is used are broken, so that a terminal of 80 columns has them whole. The version is that of
+tools/version.py. The last sentence says where an installed system has the other documents.
 """
 import os
 import re
@@ -16,6 +17,10 @@ from version import TOP, read, version
 DOCUMENT = os.path.join(TOP, "docs", "COMMANDS.md")
 PAGE = os.path.join(TOP, "man", "sm_tool.1")
 WHERE = "The documents stand in the folder share/doc/vamuretu/docs, below the one into which the program is installed, as /usr."
+
+
+# How wide a shown line may be: 80 columns, without what stands before it.
+WIDEST = 69
 
 
 def plain(text):
@@ -57,9 +62,27 @@ def heading(block):
     return [f".SH {block[3:].upper()}"]
 
 
+def broken(pieces, indent="    "):
+    """Pieces that blanks part, in lines that are not too wide. All but the first have an indent."""
+    lines = []
+    for piece in pieces:
+        if lines and len(lines[-1]) + 1 + len(piece) <= WIDEST:
+            lines[-1] += f" {piece}"
+        else:
+            lines.append(f"{indent}{piece}" if lines else piece)
+    return lines
+
+
+def usage(line):
+    """The lines that say how a command is used, none of which ends within brackets."""
+    return broken(re.findall(r"\[[^\]]*\]\S*|\S+", line))
+
+
 def shown(block):
-    """Lines that are shown as they stand."""
-    lines = [safe(plain(line[4:])) for line in block.split("\n")]
+    """Lines that are shown as they stand, but for those of usages."""
+    lines = [line[4:] for line in block.split("\n")]
+    whole = [it for line in lines for it in (usage(line) if line.startswith("sm_tool ") else [line])]
+    lines = [safe(plain(line)) for line in whole]
     return [".PP", ".nf", ".RS 4", *lines, ".RE", ".fi"]
 
 

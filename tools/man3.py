@@ -8,13 +8,15 @@ embed/sm_status.h.
 Each header makes a page of its own name, with its first comment and its types, and a page for each function. In a comment
 there are paragraphs, items that begin with `- `, and rows of a name in capitals and what it stands for. The comment of a
 function ends with `Returns` and the numbers that it can return. What these say stands in the rows of the header, or in rows
-of the function's own. Of the header's row of misuse a page has the parts that fit what the function takes.
+of the function's own. Of the header's row of misuse a page has the parts that fit what the function takes. Declarations are
+broken, so that a terminal of 80 columns has them whole.
 """
 import os
 import re
 import sys
+import textwrap
 
-from man import plain, safe
+from man import WIDEST, broken, plain, safe
 from version import TOP, read, version
 
 # The headers of the libraries, and the one that both include, which is C alone.
@@ -85,9 +87,27 @@ def shown(piece):
     return [".PP", safe(inline(piece))]
 
 
+def above(found):
+    """A member of a type, with the comment behind it, in one line; or else the comment stands before it, in as many as it takes."""
+    indent, declaration, said = found[1], found[2].rstrip(), " ".join(found[3].split())
+    one = f"{indent}{declaration} /* {said} */" if declaration else f"{indent}/* {said} */"
+    if len(one) <= WIDEST:
+        return one
+    first, *others = textwrap.wrap(f"/* {said} */", WIDEST - len(indent))
+    lines = [f"{indent}{first}", *(f"{indent}   {it}" for it in others)]
+    return "\n".join([*lines, *([f"{indent}{declaration}"] if declaration else [])])
+
+
+def declaration(line):
+    """A declaration, in lines that end behind commas if it is too wide for one."""
+    indent = re.match(" *", line)[0]
+    return broken(re.split(r"(?<=,) ", line), f"{indent}    ") if len(line) > WIDEST and "/*" not in line else [line]
+
+
 def code(text):
-    """Lines that are shown as they stand."""
-    return [".PP", ".nf", *(safe(plain(line)) for line in text.split("\n")), ".fi"]
+    """Lines that are shown as they stand, but that none is wider than a terminal."""
+    text = re.sub(r"^( *)([^\n]*?)/\*(.*?)\*/", above, text, flags=re.MULTILINE | re.DOTALL)
+    return [".PP", ".nf", *(safe(plain(it)) for line in text.split("\n") for it in declaration(line)), ".fi"]
 
 
 def front(name, header, said):
@@ -159,7 +179,7 @@ def page_of_function(header, first, block, name):
     said, returned = parted(comment_of(block))
     paragraphs = list(pieces_of(said))
     lines = [*front(name, header, short(paragraphs[0])), ".SH SYNOPSIS", ".nf", f"#include <{header}.h>", ".PP"]
-    lines += [*(safe(plain(line)) for line in declared(block).split("\n")), ".fi", ".SH DESCRIPTION"]
+    lines += [*(safe(plain(line)) for line in declaration(" ".join(declared(block).split()))), ".fi", ".SH DESCRIPTION"]
     for piece in paragraphs:
         lines += shown(piece) if not ROW.fullmatch(piece) else []
     tells_status = declared(block).startswith("uint32_t") and not declared(block).endswith("(void);")

@@ -14,7 +14,7 @@ import subprocess
 import sys
 from typing import NamedTuple
 
-from man import plain, safe
+from man import inline, plain, safe
 from version import TOP, read, version
 
 PAGE, SOURCE = os.path.join(TOP, "man", "vamuretu.1"), os.path.join(TOP, "vamuretu", "src", "main.rs")
@@ -83,8 +83,10 @@ def paragraphs():
     return [" ".join(it.split("\n")) for it in "\n".join(lines).split("\n\n")]
 
 
-def entry(tag, *texts):
-    return [".TP", safe(f"\\fB{plain(tag)}\\fR"), *"\n.br\n".join(safe(plain(it)) for it in texts).split("\n")]
+def entry(tag, text, *below):
+    """A tag with its text, and what it takes below it, each a tag with its text."""
+    inner = [line for it in below for line in entry(*it)]
+    return [".TP", safe(f"\\fB{plain(tag)}\\fR"), safe(inline(text)), *([".RS", *inner, ".RE"] if inner else [])]
 
 
 def page_of(program):
@@ -97,7 +99,7 @@ def page_of(program):
     lines += [".SH SYNOPSIS", ".nf", *(plain(it.usage) for it in leaves(whole)), "vamuretu \\-\\-help | \\-\\-version", ".fi"]
     lines += [".SH DESCRIPTION", safe(plain(what)), ".SH COMMANDS"]
     for command in leaves(whole):
-        lines += entry(" ".join(command.words), f"{command.does}.", *(f"{form}: {said}." for form, said in command.takes if said))
+        lines += entry(" ".join(command.words), f"{command.does}.", *((form, f"{said}.") for form, said in command.takes if said))
     lines += [".SH EXIT STATUS", safe(plain(ends)), ".SH FILES", *(it for file in FILES for it in entry(*file))]
     return "\n".join([*lines, ".SH SEE ALSO", plain(SEE)]) + "\n"
 

@@ -8,16 +8,17 @@
 The pages are the files *.md that git knows, or all of them where there is no git, as in a copy. Words are counted as `wc -w` does,
 and a minute has 200 of them. A time in docs/README.md stands in brackets behind the link to its page, as `[WALK](WALK.md) (30 min)`,
 and is rounded up. With --check it prints nothing, and its status is 0, where each time is right, and the pages for those who use
-Vamuretu have at most 100,000 words. Pages below crates/ and edits/ are for those who change the proofs, and have no bound.
+Vamuretu have at most 75,000 words. Pages below crates/, edits/, trials/, bench/ and embed/page/, and docs/ARCHITECTURE.md, are for
+those who change the proofs and the code, and have no bound.
 """
 import pathlib
 import re
 import subprocess
 import sys
 
-WORDS_A_MINUTE, MOST_WORDS = 200, 100_000
-# The folders whose pages are for those who change the proofs.
-OF_MAINTAINERS = ("crates", "edits")
+WORDS_A_MINUTE, MOST_WORDS = 200, 75_000
+# How the paths of pages begin that are for those who change the proofs and the code.
+OF_MAINTAINERS = ("crates/", "edits/", "trials/", "bench/", "embed/page/", "docs/ARCHITECTURE.md")
 MAP = pathlib.Path("docs/README.md")
 TIME = re.compile(r"(\]\(([^)#\s]+\.md)\) \()(\d+)( min\))")
 
@@ -36,6 +37,10 @@ def words_of(page):
     return len(page.read_bytes().split())
 
 
+def is_for_users(page):
+    return not page.as_posix().startswith(OF_MAINTAINERS)
+
+
 def minutes_of(words):
     return -(-words // WORDS_A_MINUTE)
 
@@ -43,7 +48,7 @@ def minutes_of(words):
 def print_all():
     counted = [(page, words_of(page)) for page in pages()]
     total = sum(words for _, words in counted)
-    users = sum(words for page, words in counted if page.parts[0] not in OF_MAINTAINERS)
+    users = sum(words for page, words in counted if is_for_users(page))
     for name, words in [*counted, ("pages for users", users), ("all pages", total)]:
         print(f"{words:7,} words {minutes_of(words):4} min  {name}")
     return 0
@@ -69,7 +74,7 @@ def timed():
 
 
 def check():
-    total = sum(words_of(it) for it in pages() if it.parts[0] not in OF_MAINTAINERS)
+    total = sum(words_of(it) for it in pages() if is_for_users(it))
     found = [f"{MAP}: {it}" for it in timed()[1]]
     if not TIME.search(MAP.read_text(encoding="utf-8")):
         found.append(f"{MAP}: it gives no time")

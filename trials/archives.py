@@ -341,6 +341,10 @@ class Looked(html.parser.HTMLParser):
             self.within = None
 
 
+# What a page says of the message of examples/disputed.bundle that only one log has.
+DISPUTE = "The log of general 0 says that general 0 sent general 2 order 1 in round 1. The log of general 2 does not say that this came."
+
+
 def page_of(index, *words):
     path = index.made.path("report.html")
     end = run(index.program, ["report", *words, "--out", path], cwd=index.made.folder)
@@ -384,6 +388,8 @@ def try_file_page(index):
             raise Wrong(f"a page lacks {part}: {told[:1000]}")
     if "No run id was given" not in Looked(page_of(index, liar)).text:
         raise Wrong("a page of a run that nobody named")
+    if DISPUTE not in Looked(page_of(index, os.path.join(TOP, "examples", "disputed.bundle"))).text:
+        raise Wrong("a page does not say whose log has the message on which two logs disagree")
     of_system = ["--system", "0" * 64]
     for words, status in (([index.path, *of_system], 3), ([index.path, "--run", "0" * 64], 1), ([liar, *of_system], 1)):
         same(f"no page on {words}", run(index.program, ["report", *words, "--out", made.path("none.html")]).status, status)

@@ -48,6 +48,14 @@ class Browser:
         }})()""")
 
 
+    def area(self, first, last):
+        """The area of the page from the top of one element to the end of another, as wide as the first."""
+        return self.run(f"""(() => {{
+            const [first, last] = {json.dumps([first, last])}.map(it => document.querySelector(it).getBoundingClientRect());
+            return {{ x: first.x + scrollX, y: first.y + scrollY, width: first.width, height: last.bottom - first.y }};
+        }})()""")
+
+
 # Chromium.
 
 
@@ -194,9 +202,10 @@ class Chromium(Browser):
         """Makes the page narrow."""
         self.call("Emulation.setDeviceMetricsOverride", width=width, height=640, deviceScaleFactor=1, mobile=True)
 
-    def shot(self, path):
-        """Writes what the page looks like, as a PNG."""
-        data = self.call("Page.captureScreenshot", format="png", captureBeyondViewport=True)["data"]
+    def shot(self, path, first, last):
+        """Writes what the page looks like from one element to the end of another, as a PNG."""
+        clip = {**self.area(first, last), "scale": 1}
+        data = self.call("Page.captureScreenshot", format="png", captureBeyondViewport=True, clip=clip)["data"]
         with open(path, "wb") as it:
             it.write(base64.b64decode(data))
 
@@ -408,9 +417,10 @@ class Firefox(Browser):
         """Makes the page narrow."""
         self.call("browsingContext.setViewport", context=self.page, viewport={"width": width, "height": 640})
 
-    def shot(self, path):
-        """Writes what the page looks like, as a PNG."""
-        data = self.call("browsingContext.captureScreenshot", context=self.page, origin="document")["data"]
+    def shot(self, path, first, last):
+        """Writes what the page looks like from one element to the end of another, as a PNG."""
+        clip = {"type": "box", **self.area(first, last)}
+        data = self.call("browsingContext.captureScreenshot", context=self.page, origin="document", clip=clip)["data"]
         with open(path, "wb") as it:
             it.write(base64.b64decode(data))
 

@@ -9,7 +9,7 @@ tries this alone, by a program, or with the reference (reference/sm.py) in the p
 An archive has a forged bundle, one that is none, and names with spaces, quotes, tabs, line feeds, and words that a shell
 would run; nothing runs. Each engine has to find what one call on one machine finds, byte for byte, though a task and a machine
 are lost midway. Daemons run by the user that runs the trial, on addresses 127.0.0.x, with their own files and ports, on two
-stand-ins for machines (stand_in.py). Each command of docs/ARCHIVE.md and docs/RECORDS.md prints what stands there. What is not
+stand-ins for machines (stand_in.py). Each command of docs/ARCHIVE.md prints what stands there. What is not
 there is left out, and a line says so.
 """
 import contextlib
@@ -105,6 +105,8 @@ PartitionName=all Nodes=one,two Default=YES MaxTime=INFINITE State=UP
 """
 # What marks the commands of documents that start engines, and those that are tried elsewhere; and the variables of the
 # environment that change what engines do.
+# The section of docs/ARCHIVE.md whose commands run in the folder of the data.
+RECORDS = "Records"
 ENGINES, ELSEWHERE = ("parallel ", "sbatch "), ("vamuretu ",)
 OURS = ("SM_TOOL", "STAND_IN", "SLURM", "SBATCH", "PARALLEL")
 AUTHORITY = """[req]
@@ -548,13 +550,13 @@ def try_documents(trial):
         make_key(f"{data}/auditor")
         with open(f"{data}/auditor.pub", encoding="ascii") as key:
             write(f"{data}/signers", f"auditor@firm.example {key.read()}")
-        for document in ("ARCHIVE.md", "RECORDS.md"):
-            for command, wanted in shown(document):
+        for section, folder in (({"without": RECORDS}, place), ({"section": RECORDS}, data)):
+            for command, wanted in shown("ARCHIVE.md", **section):
                 if command.startswith(ELSEWHERE) or any(engine in command for engine in ENGINES):
                     continue
                 asked = command.replace("https://stamps.example", address).replace("/data", data)
-                got = printed_by(asked, data if document == "RECORDS.md" else place).replace(data, "/data")
-                trial.tally.hold(f"{document}, {command}", None if got == wanted else f"{got!r}; it shows: {wanted!r}")
+                got = printed_by(asked, folder).replace(data, "/data")
+                trial.tally.hold(f"ARCHIVE.md, {command}", None if got == wanted else f"{got!r}; it shows: {wanted!r}")
 
 
 def trials(program, tally):

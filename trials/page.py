@@ -59,6 +59,8 @@ PICTURE = os.environ.get("PAGE_PICTURE")
 # The least contrast between text and what is behind it, by WCAG 2, level AA.
 CONTRAST = 4.5
 NARROW = 320
+# What the page says of the message of examples/disputed.bundle that only one log has.
+DISPUTE = "The log of general 0 says that general 0 sent general 2 order 1 in round 1. The log of general 2 does not say that this came."
 # Browsers that lack something, each made of this one by a script, with what the page then says of a file.
 LACKING = {
     "64-bit memories": ("WebAssembly.validate = () => false;"
@@ -419,9 +421,9 @@ SPLIT = [["0", "K2", "1", "yes", "49,601 bytes", "18fbddbba9d556d0…"], ["1", "
          ["2", "no", "0", "no", "82,629 bytes", "985170cbf04d3a61…"]]
 UNJUDGED = [[row[0], "not judged", *row[2:]] for row in SPLIT]
 SIDES = {
-    "split.evidence": [["Signed first in the file", "statement round 1 order 0 path 0", "in this run"],
-                       ["Signed besides", "statement round 1 order 1 path 0", "in this run"]],
-    "explained.0.evidence": [["Signed", "statement round 1 order 1 path 0"],
+    "split.evidence": [["Signed first in the file", "order 0, signed by general 0, for round 1", "in this run"],
+                       ["Signed besides", "order 1, signed by general 0, for round 1", "in this run"]],
+    "explained.0.evidence": [["Signed", "order 1, signed by general 0, for round 1"],
                              ["Lacks it", "A log of 2 entries, which the accused sealed.", "It has no such SIGN."]],
 }
 
@@ -631,6 +633,11 @@ def try_answers_of(program, shown, given, tally, folder):
     files = named_files(program)
     told = given.give(shown.drop, files)
     try_answers(told, tally)
+    is_there = shown.run(f"document.getElementById('answers').textContent.includes({json.dumps(DISPUTE)})")
+    tally.hold("whose log has the message", None if is_there else "it is not said")
+    listed = shown.run("[...document.querySelectorAll('details li')].map(it => it.textContent)")
+    is_there = "from 0 to 2 round 1 order 1 path 0: only the log of 0 has it" in listed
+    tally.hold("the words of a picture", None if is_there else f"{listed[:5]}")
     try_facts(program, told, files, tally)
     links = {"split.bundle.0.evidence": read(EXAMPLES, "split.evidence")}
     drawn = [name[:-4] for name in os.listdir(EXAMPLES) if name.endswith(".svg") and f"{name[:-4]}.bundle" in told]
@@ -642,10 +649,11 @@ def try_answers_of(program, shown, given, tally, folder):
 
 
 def take_picture(shown, given):
-    """Writes what the page says of a bundle whose proposer is convicted, as docs/pictures/page.png, where PICTURE names that file."""
+    """Writes what the page says of a bundle whose proposer is convicted, down to the picture, as docs/pictures/page.png, where PICTURE
+    names that file."""
     if PICTURE:
         given.take(lambda paths: shown.choose("#file", paths), {"split.bundle": read(EXAMPLES, "split.bundle")})
-        shown.shot(PICTURE)
+        shown.shot(PICTURE, "article", "article .picture")
 
 
 def try_page(program, page, bases, tally, folder, shown):

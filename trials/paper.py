@@ -12,7 +12,7 @@ from typing import NamedTuple
 
 # Where docs/PROTOCOL.md departs from the paper, and what the paper leaves open: the section of the table, the first cell of the row
 # and the cell "Here". The rows of these tables and this list have to be the same (`differences_wrong` of worlds.py).
-STEPS, SIGNATURES, OPEN = "the-protocol", "what-a-run-is", "what-the-paper-leaves-open"
+STEPS, SIGNATURES, OPEN = "where-it-differs-from-the-paper", "what-a-run-is", "what-the-paper-leaves-open"
 DIFFERENCES = [
     (STEPS, "2(A)", "A lieutenant adds each value that comes from the commander in round 1, and relays each."),
     (STEPS, "2(A)", "With one round nothing is relayed."),

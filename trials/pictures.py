@@ -1,11 +1,14 @@
 """Pictures of examples, worked cases and campaigns: each is byte for byte what the reference draws. Each is well-formed XML of few
 elements, fetches and runs nothing, and has a size that is linear in the entries.
 
-Also bundles with a log missing or doubled, faults, words, and a full device.
+Also bundles with a log missing or doubled, faults, words, and a full device; and, in each browser that is there, whether a text of
+docs/pictures lies on another one or beyond its picture.
 """
 import os
+import tempfile
 import xml.etree.ElementTree
 
+from browser import BROWSERS, found
 from campaigns import bytes_of, example, pair, text_of
 from devices import FULL
 from layout import Bundle
@@ -21,6 +24,21 @@ SVG = "{http://www.w3.org/2000/svg}"
 ELEMENTS = {"svg", "style", "rect", "marker", "path", "title", "text", "tspan", "g"}
 STYLED = {"id", "class", "width", "height", "viewBox", "refX", "refY", "markerWidth", "markerHeight", "orient"}
 PLACED = {"x", "y", "dx", "dy", "d", "transform"}
+
+# The pictures of documents, and a script by which a browser names texts of one that overlap or are not all in it.
+DOCUMENTS = os.path.join(os.path.dirname(os.path.dirname(os.path.abspath(__file__))), "docs", "pictures")
+OVERLAPS = """(() => {
+  const { width, height } = document.documentElement.viewBox.baseVal;
+  const all = [...document.querySelectorAll("text")].map(it => ({ said: it.textContent, box: it.getBBox() }));
+  const ends = ({ box }) => [box.x, box.y, box.x + box.width, box.y + box.height];
+  const isBeyond = it => { const [left, top, right, bottom] = ends(it); return left < 0 || top < 0 || right > width || bottom > height; };
+  const doMeet = (one, other) => {
+    const [left, top, right, bottom] = ends(one), [from, over, to, under] = ends(other);
+    return left < to && from < right && top + 3 < under && over + 3 < bottom;
+  };
+  const met = all.flatMap((one, at) => all.slice(0, at).filter(it => doMeet(one, it)).map(it => `${one.said} over ${it.said}`));
+  return [...all.filter(isBeyond).map(it => `${it.said} beyond the picture`), ...met];
+})()"""
 
 # So many bytes a picture has at most, and so many more for each general, order and round, for each entry and each line of
 # the verdict.
@@ -118,8 +136,22 @@ def try_faults(program, tally):
     tally.count(2 * len(cases) + 6)
 
 
+def try_documents(_, tally):
+    """The pictures of docs/pictures, as each browser shows them."""
+    for kind in BROWSERS:
+        if not found(kind):
+            tally.note(f"no {kind.__name__} is there, so no picture was looked at in one")
+            continue
+        with tempfile.TemporaryDirectory(dir="/tmp") as folder, kind(found(kind), folder) as shown:
+            for name in sorted(os.listdir(DOCUMENTS)):
+                if name.endswith(".svg"):
+                    shown.open(os.path.join(DOCUMENTS, name))
+                    wrong = shown.run(OVERLAPS)
+                    tally.hold(f"{name} in {kind.__name__}", None if wrong == [] else f"{wrong}")
+
+
 def trials(program, tally):
     if "draw" not in tally.commands or not os.path.exists("/dev/full"):
         return
-    for part in tally.chosen([try_examples, try_bundles, try_campaigns, try_faults]):
+    for part in tally.chosen([try_examples, try_bundles, try_campaigns, try_faults, try_documents]):
         part(program, tally)

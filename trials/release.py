@@ -37,6 +37,8 @@ CRATES |= {"libsm_embed-v3.a": "sm_embed", "libsm_node-v3.a": "sm_node"}
 GATE, VERDICT = "1 passed, 0 failed", "logic=proved functions=1 sum=0"
 # The most that `systemd-analyze security` may find in a unit, of 100.
 EXPOSURE = 20
+# How many columns a terminal has.
+COLUMNS = 80
 SECONDS = "1795758936"
 GIT = {"GIT_AUTHOR_NAME": "a", "GIT_AUTHOR_EMAIL": "a@a", "GIT_COMMITTER_NAME": "a", "GIT_COMMITTER_EMAIL": "a@a"}
 GIT |= {"GIT_AUTHOR_DATE": f"{SECONDS} +0000", "GIT_COMMITTER_DATE": f"{SECONDS} +0000"}
@@ -428,6 +430,19 @@ def try_words(program, prefix, tally):
         tally.hold("fish completes", None if end.wrote.startswith(b"accuse") else f"{end}")
 
 
+def try_widths(prefix, tally):
+    """No manual page has a line that a terminal of 80 columns breaks, and neither has the help of vamuretu."""
+    wide = lambda name, text: [f"{name}: {line}" for line in text.split("\n") if len(line) > COLUMNS]
+    found = []
+    for path in all_files(os.path.join(prefix, "share", "man")) if shutil.which("nroff") else []:
+        shown = run("sh", ["-c", f"nroff -man -Tutf8 -P-cbou -rLL={COLUMNS}n '{os.path.join(prefix, 'share', 'man', path)}'"])
+        found += wide(path, shown.wrote.decode())
+    program = os.path.join(prefix, dist.NODES)
+    for it in man_vamuretu.leaves(man_vamuretu.command_of(program)) if os.path.exists(program) else []:
+        found += wide(" ".join(it.words), run(program, [*it.words, "--help"]).wrote.decode())
+    tally.hold("no line is too wide", f"{found[:3]}" if found else None)
+
+
 def try_nodes(prefix, tally):
     """The installed program vamuretu: its version, its page, what is completed, and its units."""
     program = os.path.join(prefix, dist.NODES)
@@ -497,6 +512,7 @@ def try_installed(tree, place, tally):
     try_words(program, prefix, tally)
     if os.path.exists(os.path.join(prefix, dist.NODES)):
         try_nodes(prefix, tally)
+    try_widths(prefix, tally)
     try_uses(prefix, place, tally)
     try_both(prefix, place, tally)
     try_actuator(prefix, place, tally)

@@ -1,8 +1,9 @@
-"""The runs that documents show: each command in docs/WALK.md, docs/COMMANDS.md and docs/IDENTITIES.md prints what stands there.
+"""The runs that documents show: each command in README.md, INSTALL.md, docs/WALK.md, docs/LESSON.md, docs/COMMANDS.md and docs/IDENTITIES.md
+prints what stands there.
 
 In a block of indented lines one that begins with `$ ` is a command, and the lines behind it, up to the next command or the
 end of the block, are what it prints, on standard output and standard error together. The commands of a document are run one
-after another by `sh` in a folder of their own, which has a copy of examples/, with `sm_tool` as the program. Besides,
+after another by `sh` in a folder of their own, which has a copy of examples/ and the reference, with `sm_tool` as the program. Besides,
 man/sm_tool.1 is the page that tools/man.py makes of docs/COMMANDS.md, man/*.3 are those that tools/man3.py makes of the headers,
 and each piece of code in crates/docs/LIBRARY.md stands in the source that is named in front of it.
 """
@@ -16,14 +17,16 @@ import tempfile
 from programs import run
 
 TOP = os.path.join(os.path.dirname(os.path.abspath(__file__)), "..")
-DOCUMENTS = ["WALK.md", "COMMANDS.md", "IDENTITIES.md"]
+DOCUMENTS = ["README.md", "INSTALL.md", "WALK.md", "LESSON.md", "COMMANDS.md", "IDENTITIES.md"]
+# Those of them that stand at the top.
+AT_TOP = ["README.md", "INSTALL.md"]
 INDENT, PROMPT = "    ", "    $ "
 
 
 def shown(document, section=None, without=None):
     """The commands that a document shows, each with what it prints: of a section alone, or without one."""
     rows, is_open, heading = [], False, None
-    with open(os.path.join(TOP, "docs", document), encoding="utf-8") as lines:
+    with open(os.path.join(TOP, "" if document in AT_TOP else "docs", document), encoding="utf-8") as lines:
         for line in lines:
             heading = line.strip("# \n") if line.startswith("## ") else heading
             if section not in (None, heading) or heading == without is not None:
@@ -37,8 +40,9 @@ def shown(document, section=None, without=None):
 
 
 def folder_for(program, place):
-    """Puts into a folder what the commands find there: the examples, and the program by its name."""
+    """Puts into a folder what the commands find there: the examples, the reference, and the program by its name."""
     shutil.copytree(os.path.join(TOP, "examples"), os.path.join(place, "examples"))
+    os.symlink(os.path.join(TOP, "reference"), os.path.join(place, "reference"))
     os.mkdir(os.path.join(place, "bin"))
     os.symlink(program, os.path.join(place, "bin", "sm_tool"))
 

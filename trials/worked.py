@@ -117,6 +117,15 @@ def try_stored(program, tally):
         tally.count(3)
 
 
+def try_decisions(program, tally):
+    """The decisions that stand beside each scenario of examples/."""
+    for name in sorted(it for it in os.listdir(EXAMPLES) if it.endswith(".scenario")):
+        with open(os.path.join(EXAMPLES, name.replace(".scenario", ".decisions")), "rb") as kept:
+            wanted = End(0, kept.read(), b"")
+        tally.hold(f"decide, examples/{name}", differs(run(program, ["decide", name], cwd=EXAMPLES), wanted))
+        tally.count(1)
+
+
 def try_stolen_key(program, tally):
     """A chain that somebody signed with a stolen key, with his own log withheld; and the same with a bent signature."""
     bundle = Bundle(run(program, ["run"], stored("stolen_key.scenario")).wrote)
@@ -260,5 +269,5 @@ def try_kinds(program, tally):
 
 
 def trials(program, tally):
-    for trial in tally.chosen([try_runs, try_stored, try_stolen_key, try_bytes, try_texts, try_words, try_help, try_kinds]):
+    for trial in tally.chosen([try_runs, try_stored, try_decisions, try_stolen_key, try_bytes, try_texts, try_words, try_help, try_kinds]):
         trial(program, tally)

@@ -250,20 +250,29 @@ const partedIn = (run, pair) => (pair ? [made("p", "warning", `No walk: ${genera
   + "this list.")] : []);
 
 // The runs of a file, each with its numbers and its generals.
-function runsIn({ kind, file, verdicts, parted = [] }) {
-  const alone = file.runs.length === 1;
+function runsIn({ kind, file, verdicts, text, parted = [] }) {
+  const alone = file.runs.length === 1, disputes = disputesIn(text, file.runs);
   return file.runs.filter(it => it.id).flatMap((run, place) => {
     const name = alone ? "The run" : isAboutEvidence(kind) ? `Run of the ${place ? "second" : "first"} text` : `Run ${place}`;
     const verdict = verdicts[place], look = verdict ? lookOf(outcomeOfRun(run, verdict), { verdicts: [verdict] }) : "";
-    const said = verdict ? `${name}: ${verdict.verdict}` : name;
+    const said = verdict ? `${alone ? "The verdict" : name}: ${verdict.verdict}` : name;
     const label = alone ? "The generals" : `The generals of run ${place}`;
     const table = run.faulty ? [generalsTable(run, verdicts[place], label)] : [];
-    return [made("h3", look, said), ...equalRootsIn(run), ...partedIn(run, parted[place]), ...table, runFacts(run)];
+    return [made("h3", look, said), ...equalRootsIn(run), ...partedIn(run, parted[place]),
+      ...disputes[place].map(it => made("p", "dispute", it)), ...table, runFacts(run)];
   });
 }
 
 // Whether an answer is on evidence, or on a log that answers evidence.
 const isAboutEvidence = kind => kind === "evidence" || kind === "reply";
+
+// A signed text: of a statement the order, who signed it one after another, and the round; of a head the end of a log.
+function signedText(said) {
+  const found = /^statement round (\d+) order (\d+) path (.*)$/.exec(said);
+  if (!found) return said;
+  const [, round, order, path] = found, by = path.replaceAll(",", ", then ");
+  return `order ${order}, signed by ${path.includes(",") ? "generals" : "general"} ${by}, for round ${round}`;
+}
 
 // What stands on one side of evidence.
 const sideOf = (name, ...said) => made("section", "side", made("h4", "", name), ...said.map(it => made("p", "long", it)));
@@ -273,10 +282,10 @@ function sidesOf({ texts, runs, departs, kind }) {
   const log = runs[0]?.logs[0];
   const run = text => (kind.number === 5 ? `in run ${runs[text.place].id}` : "in this run");
   if (texts.length === 2) {
-    return texts.map(it => sideOf(it.name === "first" ? "Signed first in the file" : "Signed besides", it.said, run(it)));
+    return texts.map(it => sideOf(it.name === "first" ? "Signed first in the file" : "Signed besides", signedText(it.said), run(it)));
   }
   const sealed = `A log of ${several(log.entries.length, "entry", "entries")}, which the accused sealed.`;
-  if (texts.length) return [sideOf("Signed", texts[0].said), sideOf("Lacks it", sealed, "It has no such SIGN.")];
+  if (texts.length) return [sideOf("Signed", signedText(texts[0].said)), sideOf("Lacks it", sealed, "It has no such SIGN.")];
   const due = "An entry that the algorithm asks for is missing before it, or stands in no such form here.";
   return [sideOf("Sealed", sealed), sideOf("Departs from here on", log.entries[departs] ?? `entry ${departs}`, due)];
 }
@@ -348,6 +357,14 @@ function offered(evidence, name) {
   return [made("h3", "", "Evidence to hand on"), list];
 }
 
+// The words that the pointer finds in a picture, for a keyboard, a reader of screens and paper.
+function wordsOf(picture) {
+  const said = [...picture.querySelectorAll("title")].map(it => it.textContent);
+  const list = made("ul", "", ...said.slice(0, EXPLAINED).map(it => made("li", "", it)));
+  if (said.length > EXPLAINED) list.append(made("li", "", `${spell(said.length - EXPLAINED)} more stand in the picture.`));
+  return said.length ? [made("details", "", made("summary", "", "The words of the picture"), list)] : [];
+}
+
 // The picture, in a tree of its own, so that its style stays within.
 function pictured(picture, name) {
   if (!picture) return [];
@@ -355,7 +372,8 @@ function pictured(picture, name) {
   const tree = made("div", "");
   tree.attachShadow({ mode: "open" }).append(document.importNode(read.documentElement, true));
   const link = saving("Save the picture", `${name}.svg`, picture, "image/svg+xml");
-  return [made("h3", "", "The picture"), framed("picture", `Picture of ${name}`, tree), made("p", "", link)];
+  return [made("h3", "", "The picture"), framed("picture", `Picture of ${name}`, tree), made("p", "", link),
+    ...wordsOf(read)];
 }
 
 // What the text of the answer is.

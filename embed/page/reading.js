@@ -52,3 +52,26 @@ function readShown(shown) {
   }
   return file;
 }
+
+// What the logs of both ends of a run say of a message of which only one of them has it, as `from 0 to 2 round 1 order 1`.
+function disputeIn({ logs }, said, from, to) {
+  const hasIt = (general, word) => logs.some(it => it.general === general && it.entries.some(line => line.includes(`${word} ${said} `)));
+  const [round, order] = said.split(" ").slice(-3).filter(it => it !== "order"), message = `order ${order} in round ${round}`;
+  const sent = hasIt(from, "send"), came = hasIt(to, "recv");
+  if (sent && came) return `The logs of generals ${from} and ${to} have ${message} with different paths.`;
+  const ours = sent ? `The log of general ${from} says that general ${from} sent general ${to} ${message}`
+    : `The log of general ${to} says that ${message} came from general ${from}`;
+  return `${ours}. The log of general ${sent ? `${to} does not say that this came` : `${from} does not say that this was sent`}.`;
+}
+
+// Of each run what is said of the messages on which two logs disagree, by the text of the verdict.
+function disputesIn(text, runs) {
+  const found = runs.map(() => []);
+  let place = -1;
+  for (const line of linesOf(text)) {
+    if (line.startsWith("run ")) place += 1;
+    const message = /^N8 (from (\d+) to (\d+) round \d+ order \d+)$/.exec(line);
+    if (message && runs[place]) found[place].push(disputeIn(runs[place], message[1], Number(message[2]), Number(message[3])));
+  }
+  return found;
+}

@@ -31,6 +31,7 @@ function reportOf(article, name, picture) {
   for (const it of copy.querySelectorAll("a[download]")) it.replaceWith(`${it.download} ${/\(.*\)$/.exec(it.textContent)}`);
   for (const it of copy.querySelectorAll("[tabindex]")) it.removeAttribute("tabindex");
   if (picture) copy.querySelector(".picture").replaceChildren(imageOf(picture, name));
+  for (const it of copy.querySelectorAll("details")) it.open = true;
   paper.documentElement.lang = "en";
   paper.head.prepend(marked("meta", { charset: "utf-8" }),
     marked("meta", { "http-equiv": "Content-Security-Policy", content: REPORT_POLICY }),
@@ -44,6 +45,7 @@ function reportOf(article, name, picture) {
 // Prints one answer.
 function printAlone(article) {
   article.classList.add("printed");
+  for (const it of article.querySelectorAll("details")) it.open = true;
   document.body.classList.add("one");
   addEventListener("afterprint", () => {
     article.classList.remove("printed");

@@ -1,5 +1,5 @@
 ; A mask of 32 lanes: bit i of the answer says whether byte i of two texts of 32 bytes differs. In `mask_of` the left text comes in
-; two registers. LLVM 22 compiles it wrongly for WebAssembly (docs/LLVM.md), for which the page's maker retargets this module.
+; two registers. LLVM 22 compiles it wrongly for WebAssembly (embed/page/LLVM.md), for which the page's maker retargets this module.
 target datalayout = "e-m:e-p270:32:32-p271:32:32-p272:64:64-i64:64-i128:128-f80:128-n8:16:32:64-S128"
 target triple = "x86_64-unknown-linux-gnu"
 

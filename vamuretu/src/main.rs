@@ -80,7 +80,7 @@ impl fmt::Display for End {
 }
 
 #[derive(Parser)]
-#[command(name = "vamuretu", version, about, long_about = None)]
+#[command(name = "vamuretu", version, about, long_about = None, max_term_width = 80)]
 struct Words {
     #[command(subcommand)]
     command: Command,

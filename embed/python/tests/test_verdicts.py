@@ -45,7 +45,7 @@ class Verdicts(unittest.TestCase):
         parts = {"faulty": [0, 3], "equal_roots": [[0, 2], [1, 2]], "statuses": status}
         made = judgement_of(verdict("explained", decisions=[{"general": 1, "order": 0}], **parts))
         self.assertEqual((made.generals, made.traitors, made.faulty, made.equal_roots), (4, 1, (0, 3), ((0, 2), (1, 2))))
-        self.assertEqual((made.decisions, made.statuses), ((Decision(1, 0),), (Status.HELD, Status.NOTHING_FOUND)))
+        self.assertEqual((made.decisions, made.statuses), ((Decision(1, 0),), (Status.ASSUMED_FAULTY, Status.NOTHING_FOUND)))
         self.assertEqual(str(made), f"run {'0a' * 32}\nverdict explained\ngeneral 1 decides 0\nend\n")
 
     def test_kinds_are_their_words(self):

@@ -27,7 +27,7 @@ class Status(str, enum.Enum):
     """
 
     CONVICTED = "convicted"
-    HELD = "assumed faulty"
+    ASSUMED_FAULTY = "assumed faulty"
     SUSPECTED = "suspected"
     NOTHING_FOUND = "nothing found"
 

@@ -219,7 +219,7 @@ pub enum Status {
     /// A conviction of this run names the node.
     Convicted,
     /// The node is assumed faulty.
-    Held,
+    AssumedFaulty,
     /// One of the findings N1 to N9 names the node.
     Suspected,
     /// None of these.
@@ -299,7 +299,7 @@ impl Verdict {
 impl Status {
     /// The status of a number.
     fn of(number: u32) -> Option<Status> {
-        let all = [Status::Convicted, Status::Held, Status::Suspected, Status::NothingFound];
+        let all = [Status::Convicted, Status::AssumedFaulty, Status::Suspected, Status::NothingFound];
         all.get(usize::try_from(number).ok()?.checked_sub(1)?).copied()
     }
 }

@@ -25,6 +25,14 @@ pub const MOST_INPUT: u64 = 1 << 30;
 /// What the names of bundles and campaigns end with in a folder, and what a compressed one has behind.
 const ENDS: [&str; 2] = [".bundle", ".bundles"];
 const PACKED: &str = ".zst";
+/// What other programs pack, which is named and not unpacked: what the name ends with, how the file begins, the program, and what
+/// unpacks it. What zstd has packed is unpacked if its name says so.
+const PACKERS: [(&str, &[u8], &str, &str); 4] = [
+    (".gz", b"\x1f\x8b", "gzip", "gunzip"),
+    (".xz", b"\xfd7zXZ\0", "xz", "unxz"),
+    (".bz2", b"BZh", "bzip2", "bunzip2"),
+    (PACKED, b"\x28\xb5\x2f\xfd", "zstd", "zstd -d --long=27"),
+];
 /// An input, and what the library takes to judge it, are so many times its bytes.
 const JUDGED: u64 = 4;
 /// The longest window, as a power of two, with which threads count side by side. With longer ones they take turns.
@@ -99,6 +107,17 @@ fn too_long(how: &str) -> io::Error {
     wrong(format!("{how} more than {MOST_INPUT} bytes"))
 }
 
+/// Refuses what another program has packed.
+fn check_plain(stored: &[u8]) -> io::Result<()> {
+    match PACKERS.iter().find(|it| stored.starts_with(it.1)) {
+        Some((end, _, packer, unpacker)) => {
+            let named = if *end == PACKED { format!(", or name it with {PACKED} at its end") } else { String::new() };
+            Err(wrong(format!("{packer} has packed it: unpack it by {unpacker}{named}")))
+        }
+        None => Ok(()),
+    }
+}
+
 fn stamp_of(of: &std::fs::Metadata) -> io::Result<Stamp> {
     if !of.is_file() {
         return Err(wrong("no file"));
@@ -128,7 +147,7 @@ pub fn read<'a>(path: &Path, rooms: &'a Rooms) -> io::Result<Content<'a>> {
     let length = match stored.len() as u64 > MOST_INPUT {
         true => Err(too_long("it has")),
         false if is_packed => unpacked_length(&stored, MOST_INPUT),
-        false => Ok(stored.len() as u64),
+        false => check_plain(&stored).map(|()| stored.len() as u64),
     };
     let sha256 = (is_packed || length.is_err()).then(|| digest(&stored));
     let taken = length.as_ref().ok().map(|length| rooms.judged.take(JUDGED * length));
@@ -177,10 +196,10 @@ fn unpack(stored: &[u8], length: u64) -> io::Result<Vec<u8>> {
     Ok(input)
 }
 
-/// Whether a name is that of a bundle or a campaign.
+/// Whether a name is that of a bundle or a campaign, whatever has packed it.
 fn is_bundle(name: &OsStr) -> bool {
     let name = name.as_bytes();
-    let name = name.strip_suffix(PACKED.as_bytes()).unwrap_or(name);
+    let name = PACKERS.iter().find_map(|it| name.strip_suffix(it.0.as_bytes())).unwrap_or(name);
     ENDS.iter().any(|end| name.ends_with(end.as_bytes()))
 }
 
@@ -367,5 +386,16 @@ mod tests {
         assert_eq!((plain.sha256(), plain.stored, plain.input.expect("plain")), (digest(b"abc"), None, b"abc".into()));
         assert!(super::read(&folder, &rooms).is_err() && super::read(&folder.join("none"), &rooms).is_err());
         std::fs::remove_dir_all(folder).expect("a folder");
+    }
+
+    #[test]
+    fn what_another_program_has_packed_is_told() {
+        let told = |stored: &[u8]| check_plain(stored).expect_err("packed").to_string();
+        assert_eq!(told(b"\x1f\x8b\x08"), "gzip has packed it: unpack it by gunzip");
+        let wanted = "zstd has packed it: unpack it by zstd -d --long=27, or name it with .zst at its end";
+        assert_eq!(told(&pack(b"abc").expect("memory")), wanted);
+        assert!(check_plain(b"SMB1").is_ok() && check_plain(b"").is_ok());
+        let is_there = |name: &str| is_bundle(OsStr::new(name));
+        assert!(is_there("a.bundle.gz") && is_there("a.bundles.zst") && !is_there("a.gz"));
     }
 }

@@ -90,6 +90,9 @@ pub fn perform(asked: &Archive) -> Result<bool, End> {
             let warned = !*json && found.iter().any(read::Found::is_numberless);
             let lines = warned.then(|| read::NUMBERLESS.to_owned()).into_iter().chain(found.iter().map(line));
             write(&lines.map(|line| line + "\n").collect::<String>())?;
+            if found.is_empty() && !*json {
+                let _ = writeln!(io::stderr(), "nothing is found");
+            }
             Ok(!found.is_empty())
         }
         Archive::Export { index, json, digests, .. } => {

@@ -1,6 +1,7 @@
 //! One page of HTML on a file or on an index, for people: who is convicted and what that is worth, what else was found, and
 //! how to check it. The proved library gives verdicts, their sentences and pictures; what stands here arranges them.
 
+mod dispute;
 mod line;
 mod of_file;
 mod of_index;

@@ -5,6 +5,7 @@ use std::path::Path;
 
 use vamuretu::{Fault, Judged};
 
+use super::dispute::Messages;
 use super::page::{Field, Page};
 use super::{close, moment, sentence, signing, worth, Names, Report};
 use crate::archive::admissions_of;
@@ -49,7 +50,8 @@ pub fn page(asked: &Report, names: &Names) -> Result<Page, End> {
     if !is_pinned {
         page.verdict(false, &[worth::ALONE]);
     }
-    said(&mut page, &answer, names, is_pinned);
+    let messages = Messages::of(&input).map_err(wrong)?;
+    said(&mut page, &answer, names, is_pinned, &messages);
     page.text(worth::AGREED);
     convicted(&mut page, &answer, names, &asked.of);
     page.head("In the program's own words");
@@ -89,7 +91,7 @@ fn generals(answer: &Answer, names: &Names) -> String {
 
 /// The verdicts, run by run. A run is well if all agreed, nobody is convicted, and enough nodes speak for the correct ones. In a run
 /// that nobody pinned, the holder of a root is convicted.
-fn said(page: &mut Page, answer: &Answer, names: &Names, is_pinned: bool) {
+fn said(page: &mut Page, answer: &Answer, names: &Names, is_pinned: bool, messages: &Messages) {
     for run in &answer.runs {
         let number = run.number.map_or_else(|| run.run_id.clone(), |number| number.to_string());
         let order = run.order.map_or_else(String::new, |order| format!(" The order is {order}."));
@@ -104,6 +106,7 @@ fn said(page: &mut Page, answer: &Answer, names: &Names, is_pinned: bool) {
             lines.push("Nobody is convicted.".into());
         }
         page.verdict(run.verdict == Verdict::Agreed && run.convicted.is_empty() && run.speaks(), &lines);
+        messages.said(run.place, &run.findings).iter().for_each(|it| page.text(it));
         let nodes = |nodes: &[u32]| nodes.iter().map(|it| names.in_run(*it, &run.nodes)).collect::<Vec<_>>().join("; ");
         for (what, these) in [
             ("Assumed faulty", &run.assumed_faulty),

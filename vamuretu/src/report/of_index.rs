@@ -5,6 +5,7 @@ use std::path::{Path, PathBuf};
 
 use sha2::{Digest as _, Sha256};
 
+use super::dispute::Messages;
 use super::line::{self, State};
 use super::page::{Field, Page};
 use super::{close, commands, counted, moment, sentence, sentences, signing, worth, Names, Report};
@@ -491,15 +492,18 @@ fn pictures(page: &mut Page, told: &Contents, names: &Names) {
         let Some(path) = &run.path else { continue };
         let number = run_of(run.number, Some(&run.run_id));
         let what = format!("Run {number}: {}: {}.{}", run.said(), spelled(path), names.generals(&run.nodes));
-        match drawn(&told.folder.join(path), kept.input()) {
-            Ok(svg) => page.picture(&what, &svg),
+        match drawn(&told.folder.join(path), kept.input(), run) {
+            Ok((svg, said)) => {
+                page.picture(&what, &svg);
+                said.iter().for_each(|it| page.text(it));
+            }
             Err(told) => page.text(&format!("{what} No picture: {told}")),
         }
     }
 }
 
-/// The picture of a file that has the digest of the index.
-fn drawn(path: &Path, judged: Option<&String>) -> Result<String, String> {
+/// The picture of a file that has the digest of the index, and whose log has each message on which two logs of a run disagree.
+fn drawn(path: &Path, judged: Option<&String>, run: &JudgedRun) -> Result<(String, Vec<String>), String> {
     let input = files::read(path, &Rooms::default()).and_then(|it| it.input).map_err(|told| told.to_string())?;
     if judged != Some(&digest(&input)) {
         return Err("the file has other bytes now".into());
@@ -508,7 +512,8 @@ fn drawn(path: &Path, judged: Option<&String>) -> Result<String, String> {
     if svg.len() > MOST_BYTES {
         return Err(format!("it has {} bytes", svg.len()));
     }
-    Ok(svg)
+    let messages = Messages::of(&input).map_err(|told| told.to_string())?;
+    Ok((svg, messages.said(run.place, &run.findings)))
 }
 
 /// Digests and versions.
