@@ -7,3 +7,4 @@ mod Matching
 mod Naming
 mod OtherNames
 mod Passing
+mod Signing

@@ -4,6 +4,7 @@ ghost use Rattle.gen_named.specs.Explained.{FitIsExplained};
 ghost use Rattle.gen_named.specs.Matched.{DeriveRenamed, MatchRenamed};
 ghost use Rattle.gen_named.specs.Named.{EachCanName};
 ghost use Rattle.gen_named.specs.OtherNames.{NamesDiffer, other_names_case, three};
+ghost use Rattle.gen_named.specs.Signing.{FollowersSignTwo};
 ghost use Rattle.gen_named.specs.Theorem.{Case, DecideAlike, ObeyCommander, Premises};
 ghost use Rattle.gen_net.specs.Network.{IsNetwork};
 
@@ -41,6 +42,13 @@ pub fn renamed_logs_match()
 /// values, and leaves out a value only in a round by which both names came. So no run has a dead end.
 pub fn values_can_be_named()
     ensures { EachCanName }
+{}
+
+/// States what a general that follows under its names signs, by the log that it keeps. Each of its statements is of an
+/// order that stands for a value, and all of one order have one path. Those of two orders are of two values. The
+/// commander signs one order alone.
+pub fn followers_sign_two()
+    ensures { FollowersSignTwo }
 {}
 
 /// States that there is a run of values with a traitor, of which agreement speaks, and in which no value has a name at
