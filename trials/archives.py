@@ -56,7 +56,7 @@ TABLES = {
     "admitted": "SELECT run_id, number FROM admitted ORDER BY run_id",
     "system": "SELECT * FROM system",
 }
-QUESTIONS = ("gaps", "convictions", "doubles", "unknown", "equal-roots", "changed", "verdicts", "faults")
+QUESTIONS = ("gaps", "waiting", "convictions", "doubles", "unknown", "equal-roots", "changed", "verdicts", "faults")
 # What the program takes at most, in KiB: one window of 128 MiB at a time, as a bomb has it; for each of 64 cores 2 MiB of
 # another window, or of an audit of these small files; and itself. A process between the trial and the program tells what
 # was taken, since the kernel counts for a new process what the one that starts it has held.
@@ -138,6 +138,7 @@ def spoil(made, other):
     write(junk, b"junk")
     return {
         "gaps": {(CUT, ()), (OTHER, ()), (MISSING, ())},
+        "waiting": set(),
         "convictions": {(LIAR, (lied,))},
         "doubles": {(TWICE, (again, twice))},
         "unknown": {(None, (other_run,))},

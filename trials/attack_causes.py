@@ -56,7 +56,9 @@ def clocks_apart(lab):
             wants(all(it["connected"] and it["apart"] for it in own), f"the status of the node says {own}")
             for node in OTHERS:
                 said = {it["why"] for it in made.alarms(node, "apart")}
-                wants(said and all(f"node {BROKEN} " in it and by_others in it for it in said), f"the alarms of node {node} say {said}")
+                # A node whose disk stood still has not looked at the runs to come, and does not know by how much.
+                is_right = lambda it: f"node {BROKEN} " in it and (by_others in it or "far from now" in it)
+                wants(said and all(map(is_right, said)), f"the alarms of node {node} say {said}")
                 peers = tells(made, ["status", made.nodes[node].config])["status"]["peers"]
                 wants({it["number"] for it in peers if it["apart"]} == {BROKEN}, f"the status of node {node} says {peers}")
                 wants(made.counts(node)[f'vamuretu_apart{{peer="{BROKEN}"}}'] == 1, f"the metrics of node {node} do not say whose frames are apart")

@@ -21,6 +21,10 @@ PATIENCE = 300
 END = "the command has ended"
 
 
+class Hangs(Exception):
+    """A command did not end, or ended the shell."""
+
+
 class Shell:
     """A shell that does one command after another, as a person types them. With it all ends that it has started."""
 
@@ -32,7 +36,7 @@ class Shell:
         self.timer.start()
 
     def does(self, command):
-        """What a command prints."""
+        """What a command prints. Where it hangs, this raises which it is."""
         self.started.stdin.write(f"{{ {command}\n}} < /dev/null\necho '{END}'\n")
         self.started.stdin.flush()
         printed = ""
@@ -40,7 +44,7 @@ class Shell:
             printed += line
             if printed.endswith(f"{END}\n"):
                 return printed.removesuffix(f"{END}\n")
-        return f"{printed}: the shell has ended"
+        raise Hangs(f"{command}: it has not ended, and printed {printed!r}")
 
     def kill(self):
         with contextlib.suppress(ProcessLookupError):
@@ -82,6 +86,8 @@ def follow(tally, programs, documents, libraries):
                 if INSTALLED in command:
                     move_ports(place, block)
                 tally.hold(f"{DOCUMENT}, {command}", None if got == wanted else f"{got!r}; it shows: {wanted!r}")
+        except Hangs as told:
+            tally.fail(f"{DOCUMENT}, {told}")
         finally:
             shell.close()
     took = time.monotonic() - since

@@ -22,7 +22,7 @@ import time
 from bindings import build_libraries
 from cargo_built import build_program, node_program
 from embed import TOP, source
-from going_on import DOCUMENT, INSTALLED, SECTION, Shell, move_ports, moved
+from going_on import DOCUMENT, INSTALLED, SECTION, Hangs, Shell, move_ports, moved
 from life_runs import System, TooBusy
 from programs import run
 from walk import shown
@@ -36,6 +36,9 @@ BYTES_OF_RUN, DIFFERS = 136_000, 0.1
 PATIENCE, MOST_SECONDS = 60, 300
 # The first three digits of the ports of ways, each with those of its next system, so that no two ways have one port.
 BLOCKS = itertools.cycle(random.sample(range(164, 326, 2), 81))
+# Where the folders of ways are, or else in /tmp: a disk that others use can take seconds for a mark, and nodes of one disk then miss
+# runs together. The name has to be short, as the address of a socket is.
+MEMORY = "/dev/shm"
 # How much longer than a second a period is where a way is gone again.
 SLOWER = (1, 2, 4)
 # The commands by which all nodes begin a first time, and by which the first system ends. In the second a word stands for any time.
@@ -55,8 +58,7 @@ class Way:
 
     def spelled(self, command):
         """A command of the pages as it is done here: with other ports, fewer keys, and another timetable."""
-        ahead, soon = 8 * self.slower, 40 * self.slower
-        shorter = [("+ 10))000", f"+ {ahead}))000"), ("sleep 12", f"sleep {ahead + 2 * self.slower}"), ("'1 hour'", f"'{soon} seconds'")]
+        shorter = [("+ 10))000", f"+ {10 * self.slower}))000"), ("'1 hour'", f"'{40 * self.slower} seconds'")]
         shorter += [("sleep 6", f"sleep {5 + self.slower}"), ("--levels 10", f"--levels {self.levels}"), (" 1000 2 ", f" {1000 * self.slower} 2 ")]
         for old, new in shorter:
             command = command.replace(old, new)
@@ -260,11 +262,12 @@ def follow(way):
 
 def go(section, programs, slower):
     """Goes a way in a folder of its own. Tells what is wrong, how many commands it was, and what came of it."""
-    # A socket's address is short, so the folder has to be.
-    with tempfile.TemporaryDirectory(dir="/tmp") as place:
+    with tempfile.TemporaryDirectory(dir=MEMORY if os.access(MEMORY, os.W_OK) else "/tmp") as place:
         way = Way(section, place, programs, slower)
         try:
             return way.wrong, *follow(way)
+        except Hangs as told:
+            return [*way.wrong, str(told)], 0, "it hangs"
         finally:
             way.shell.close()
 

@@ -235,7 +235,7 @@ fn perform(command: &Command) -> Result<bool, End> {
             let system = from.map(|_| hex::encode(file.system.id));
             node::local::tell_all(&file, &json!({ "ask": "decisions", "from": from, "system": system }))
         }
-        Command::Drain(of) => node::local::tell_all(&of.read()?, &json!({ "ask": "drain" })),
+        Command::Drain(of) => node::local::drain(&of.read()?),
         Command::AcceptStep(of) => accept_step(of),
         Command::Log { of, run } => node::spool::write_log(&of.read()?, *run),
         Command::Context(of) => write(&of.read()?.context_text()),

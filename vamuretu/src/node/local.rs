@@ -23,6 +23,7 @@ use tokio::time::{timeout, timeout_at, Instant};
 use super::answers::{self, Decided, Line, Lost, Proposal, Status, Stored};
 use super::counts::Counts;
 use super::nodes::Nodes;
+use super::process::Process;
 use super::runs::RunOutcome;
 use super::telling::Listening;
 use super::{worth, Shared};
@@ -466,6 +467,13 @@ fn tell_some(file: &NodeFile, request: &Json, most: usize) -> Result<(), End> {
 /// The commands whose answer is one line.
 pub fn tell(file: &NodeFile, request: &Json) -> Result<(), End> {
     tell_some(file, request, 1)
+}
+
+/// The command `drain`. It ends behind the process of the node, so that another one finds all folders free.
+pub fn drain(file: &NodeFile) -> Result<(), End> {
+    let process = Asking::connect(&file.local.socket).and_then(|stream| Process::at_end_of(&stream));
+    tell_all(file, &serde_json::json!({ "ask": "drain" }))?;
+    process.and_then(|process| process.await_end()).or(Ok(()))
 }
 
 /// The commands that write what the node says until it ends.

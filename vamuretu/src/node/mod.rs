@@ -12,6 +12,7 @@ pub mod life;
 pub mod local;
 mod nodes;
 mod peers;
+mod process;
 mod runs;
 mod shelf;
 pub mod ship;
