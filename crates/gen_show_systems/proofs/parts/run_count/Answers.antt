@@ -6,5 +6,5 @@ pub overflow_mul-result : goal.overflow_mul-result
 overflow_mul-result c =
     let few = c.levels.ensures.system.few in
     let most : 2 ^ c.args.system.now.levels ≤ 2 ^ 20 = pow-le-pow_right {n = 2} (omega arith) few in
-    let sets : c.set_count.result ≡ 2 ^ c.args.system.now.levels = rw c.levels.ensures.value at c.set_count.ensures in
+    let sets : c.set_count-sets.result ≡ 2 ^ c.args.system.now.levels = rw c.levels.ensures.value at c.set_count-sets.ensures in
     omega (arith, sets, most)
