@@ -25,15 +25,25 @@ fn verdict_number(verdict: Verdict) -> u32
 fn told_of(alloc: Global, verdict: Result<Verdict, KeyFault>) -> Result<(Kept, u32), AllocError>
     ensures { IfOk result (λ x. IsTold verdict x.0 x.1) }
 {
-    let facts = Vec::new(alloc);
+    let (facts, judged) = (Vec::new(alloc), None);
     match verdict {
         Ok(verdict) => {
             let text = verdict_text(alloc, verdict)?;
-            Ok((Kept { text, facts }, verdict_number(verdict)))
+            let kept = Kept {
+                text,
+                facts,
+                judged,
+            };
+            Ok((kept, verdict_number(verdict)))
         }
         Err(fault) => {
             let text = key_fault_line(alloc, fault)?.into_bytes();
-            Ok((Kept { text, facts }, FAULT))
+            let kept = Kept {
+                text,
+                facts,
+                judged,
+            };
+            Ok((kept, FAULT))
         }
     }
 }
