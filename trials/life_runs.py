@@ -163,7 +163,8 @@ class System:
 
     def lost(self, last, is_full):
         """The runs up to the last that are lost, each with what its nodes did: those without a log, and where all have to be full
-        those of which logs of more than one node lack. Raises that the machine is too busy where this is the whole reason."""
+        those of which logs of more than one node lack for another reason than a start or a busy machine. Raises that the machine is
+        too busy where this is the whole reason why no log came."""
         logs, found = self.logs(), []
         for number in range(last + 1):
             missing = set(self.nodes()) - logs[number]
@@ -171,7 +172,8 @@ class System:
                 continue
             reasons = [self.reason(node, number) for node in sorted(missing)]
             why = "; ".join(it.said for it in reasons)
-            if all(it.is_fine for it in reasons) and any(it.is_busy for it in reasons):
+            is_known = all(it.is_fine for it in reasons)
+            if is_known and not logs[number] and any(it.is_busy for it in reasons):
                 raise TooBusy(f"run {number} of the {self.name} system: {why}")
-            found.append((number, why))
+            found += [] if is_known and logs[number] else [(number, why)]
         return found

@@ -679,6 +679,7 @@ mod tests {
             missing, suspected, findings, equal_roots, '0/13.bundle.zst', place, library, judged FROM runs WHERE number = 7;
             INSERT INTO waiting SELECT column1, 2, '{file}', x'00' FROM (VALUES (7), (9), (10), (12));"
         );
+        drop(reader);
         Connection::open(&path).and_then(|index| index.execute_batch(&waits)).expect("an index");
         let reader = Reader::open(&path).expect("an index");
         let gaps = ["run 8: no log came", "run 11: no file that can be judged"];
@@ -690,6 +691,7 @@ mod tests {
             ["run 10: logs wait to be judged"]
         );
         let back = "DELETE FROM waiting; DELETE FROM runs WHERE number = 13;";
+        drop(reader);
         Connection::open(&path).and_then(|index| index.execute_batch(back)).expect("an index");
         let reader = Reader::open(&path).expect("an index");
         let convicted = ["run 7: node 1 is convicted by K1: 0/7.bundle.zst"];

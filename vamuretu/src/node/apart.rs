@@ -42,7 +42,7 @@ impl fmt::Display for Comes {
 struct Doubted {
     comes: Comes,
     /// The newest of these runs, how many there were, and when the frames of the first and of the newest came.
-    run: RunId,
+    run: Option<RunId>,
     runs: u32,
     since: Instant,
     last: Instant,
@@ -122,9 +122,9 @@ impl Apart {
             state.doubted.remove(&node);
             return None;
         };
-        let it = state.doubted.entry(node).or_insert(Doubted { comes, run: [0; 32], runs: 0, since: now, last: now });
-        if it.run != head.run_id {
-            (it.comes, it.run, it.runs, it.last) = (comes, head.run_id, it.runs.saturating_add(1), now);
+        let it = state.doubted.entry(node).or_insert(Doubted { comes, run: None, runs: 0, since: now, last: now });
+        if it.run != Some(head.run_id) {
+            (it.comes, it.run, it.runs, it.last) = (comes, Some(head.run_id), it.runs.saturating_add(1), now);
         }
         self.alarm(&mut state, now)
     }
