@@ -2,8 +2,10 @@
 ghost use Rattle.gen_asked.specs.Ranges.{IsInRange};
 
 use gen_asked::{Asked, Faulty, Job};
+use gen_audit::WorkerCount;
 use gen_jobs::{JobEnd, JobFault, Output, answer, answer_in_place, deliver, do_job};
 use gen_judging::{Told, judge_by_workers};
+use gen_types::GeneralSet;
 use std::alloc::Global;
 use std::io::{self, ErrorKind, Write};
 use std::sync::Wait;
@@ -67,6 +69,40 @@ fn answered_in_place<R: Threads + Wait + Sync>(
     }
 }
 
+/// Returns how many workers judge for a job, what it asks of what they judge, and what is told of that. None for a job that
+/// judges no bytes.
+fn judging(job: Job) -> Option<(WorkerCount, Asked, Told)> {
+    match job {
+        Job::Audit {
+            workers,
+            asked,
+            strict,
+            form,
+        } => Some((workers, asked, Told::Verdict { strict, form })),
+        Job::Draw { workers, asked } => Some((workers, asked, Told::Picture)),
+        _ => None,
+    }
+}
+
+/// Returns what is told of bytes that workers judge with their own generals assumed faulty, and that are then judged with
+/// these.
+fn told_again<R: Threads + Wait + Sync>(
+    rt: &R,
+    alloc: Global,
+    judging: (WorkerCount, Asked, Told),
+    faulty: GeneralSet,
+    input: &[u8],
+) -> Result<Output, JobFault> {
+    let (workers, asked, told) = judging;
+    let listed = Asked {
+        runs: asked.runs,
+        faulty: Faulty::Listed,
+    };
+    let input = input.to_vec(alloc)?;
+    let held = judge_by_workers(rt, alloc, workers, &listed, input)?.held(alloc, faulty)?;
+    Ok(held.tell(alloc, told, None)?)
+}
+
 /// Returns what the job tells of bytes that its workers judge with their own generals assumed faulty, and that are then
 /// judged with those that the job asks for. A job that asks for none, or judges no bytes, is answered in place.
 fn answered_again<R: Threads + Wait + Sync>(
@@ -77,26 +113,13 @@ fn answered_again<R: Threads + Wait + Sync>(
 ) -> Result<Output, JobFault>
     requires { IsInRange job }
 {
-    let (workers, asked, told) = match job {
-        Job::Audit {
-            workers,
-            asked,
-            strict,
-            form,
-        } => (workers, asked, Told::Verdict { strict, form }),
-        Job::Draw { workers, asked } => (workers, asked, Told::Picture),
-        _ => return answered_in_place(rt, alloc, job, input),
-    };
-    let Faulty::These(faulty) = asked.faulty else {
-        return answered_in_place(rt, alloc, job, input);
-    };
-    let listed = Asked {
-        runs: asked.runs,
-        faulty: Faulty::Listed,
-    };
-    let input = Vec::from_slice(alloc, input)?;
-    let held = judge_by_workers(rt, alloc, workers, &listed, input)?.held(alloc, faulty)?;
-    Ok(held.tell(alloc, told, None)?)
+    match judging(job) {
+        Some((workers, asked, told)) => match asked.faulty {
+            Faulty::These(faulty) => told_again(rt, alloc, (workers, asked, told), faulty, input),
+            Faulty::Listed => answered_in_place(rt, alloc, job, input),
+        },
+        None => answered_in_place(rt, alloc, job, input),
+    }
 }
 
 /// Returns how a job ends in this form, and what it writes.
