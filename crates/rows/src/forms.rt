@@ -69,17 +69,35 @@ fn answered_in_place<R: Threads + Wait + Sync>(
     }
 }
 
-/// Returns how many workers judge for a job, what it asks of what they judge, and what is told of that. None for a job that
-/// judges no bytes.
-fn judging(job: Job) -> Option<(WorkerCount, Asked, Told)> {
-    match job {
+/// How a job judges a bundle or a campaign.
+#[derive(Clone, Copy)]
+struct Judging {
+    /// How many workers judge.
+    workers: WorkerCount,
+    /// What is asked of what they judge.
+    asked: Asked,
+    /// What is told of that.
+    told: Told,
+}
+
+/// Returns how a job judges; None for a job that judges no bytes.
+fn judging(job: &Job) -> Option<Judging> {
+    match *job {
         Job::Audit {
             workers,
             asked,
             strict,
             form,
-        } => Some((workers, asked, Told::Verdict { strict, form })),
-        Job::Draw { workers, asked } => Some((workers, asked, Told::Picture)),
+        } => Some(Judging {
+            workers,
+            asked,
+            told: Told::Verdict { strict, form },
+        }),
+        Job::Draw { workers, asked } => Some(Judging {
+            workers,
+            asked,
+            told: Told::Picture,
+        }),
         _ => None,
     }
 }
@@ -89,18 +107,18 @@ fn judging(job: Job) -> Option<(WorkerCount, Asked, Told)> {
 fn told_again<R: Threads + Wait + Sync>(
     rt: &R,
     alloc: Global,
-    judging: (WorkerCount, Asked, Told),
+    judging: &Judging,
     faulty: GeneralSet,
     input: &[u8],
 ) -> Result<Output, JobFault> {
-    let (workers, asked, told) = judging;
     let listed = Asked {
-        runs: asked.runs,
+        runs: judging.asked.runs,
         faulty: Faulty::Listed,
     };
     let input = input.to_vec(alloc)?;
-    let held = judge_by_workers(rt, alloc, workers, &listed, input)?.held(alloc, faulty)?;
-    Ok(held.tell(alloc, told, None)?)
+    let judged = judge_by_workers(rt, alloc, judging.workers, &listed, input)?;
+    let held = judged.held(alloc, faulty)?;
+    Ok(held.tell(alloc, judging.told, None)?)
 }
 
 /// Returns what the job tells of bytes that its workers judge with their own generals assumed faulty, and that are then
@@ -113,9 +131,9 @@ fn answered_again<R: Threads + Wait + Sync>(
 ) -> Result<Output, JobFault>
     requires { IsInRange job }
 {
-    match judging(job) {
-        Some((workers, asked, told)) => match asked.faulty {
-            Faulty::These(faulty) => told_again(rt, alloc, (workers, asked, told), faulty, input),
+    match judging(&job) {
+        Some(judging) => match judging.asked.faulty {
+            Faulty::These(faulty) => told_again(rt, alloc, &judging, faulty, input),
             Faulty::Listed => answered_in_place(rt, alloc, job, input),
         },
         None => answered_in_place(rt, alloc, job, input),
