@@ -81,7 +81,7 @@ struct Judging {
 }
 
 /// Returns how a job judges; None for a job that judges no bytes.
-fn judging(job: &Job) -> Option<Judging> {
+fn judged_by(job: &Job) -> Option<Judging> {
     match *job {
         Job::Audit {
             workers,
@@ -131,7 +131,7 @@ fn answered_again<R: Threads + Wait + Sync>(
 ) -> Result<Output, JobFault>
     requires { IsInRange job }
 {
-    match judging(&job) {
+    match judged_by(&job) {
         Some(judging) => match judging.asked.faulty {
             Faulty::These(faulty) => told_again(rt, alloc, &judging, faulty, input),
             Faulty::Listed => answered_in_place(rt, alloc, job, input),
