@@ -123,7 +123,7 @@ def install(root, words):
     for name in filter(os.path.exists, words):
         shutil.copy(name, f"{root}/tmp")
     words = [f"/tmp/{os.path.basename(it)}" if os.path.exists(it) else it for it in words]
-    return enter(root, ["apt-get", "update"]) or enter(root, ["apt-get", "install", "-y", "--no-install-recommends", *words])
+    return enter(root, ["apt-get", "update"]) or enter(root, ["apt-get", "install", "-y", "--allow-downgrades", "--no-install-recommends", *words])
 
 
 def put_checkout(root):
