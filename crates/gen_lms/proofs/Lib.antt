@@ -6,4 +6,5 @@ pub mod Joining
 pub mod Leading
 pub mod Meeting
 pub mod Numbers
+mod SubtreeNodes
 pub mod Telling

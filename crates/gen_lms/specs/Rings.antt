@@ -41,6 +41,10 @@ leaves_up_to tree (suc n) =
 abbrev pub tree_leaves : TreeName → List (List ℕ)
 tree_leaves tree = leaves_up_to tree (leaves_of tree.height)
 
+-- T[r], which stands this many levels above the leaves of a tree
+unfoldable pub tree_node : TreeName → ℕ → ℕ → List ℕ
+tree_node tree level r = node_over tree.identifier (tree_leaves tree) (leaves_of tree.height) level r
+
 -- T[1]: the root of a tree
 unfoldable pub tree_root : TreeName → List ℕ
 tree_root tree =

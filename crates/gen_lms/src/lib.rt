@@ -26,6 +26,7 @@ mod nodes;
 mod public_keys;
 mod rings;
 pub mod sizes;
+mod subtrees;
 mod trees;
 mod verifying;
 
@@ -38,5 +39,6 @@ pub use laws::{
 pub use leaf_keys::{LeafKey, SignatureRoom};
 pub use public_keys::PublicKey;
 pub use rings::KeyRing;
+pub use subtrees::{root_of_subtrees, subtree_root};
 pub use trees::{KeyTree, leaf_of};
 pub use verifying::verify;

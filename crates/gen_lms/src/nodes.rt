@@ -30,8 +30,8 @@ pub fn leaf(identifier: &[u8; 16], number: u32, key: &[u8; HASH_BYTES]) -> [u8; 
     hasher.finalize()
 }
 
-// Returns the node with a number above two nodes, the left and the right one.
-fn inner(identifier: &[u8; 16], number: u32, left: &[u8], right: &[u8]) -> [u8; HASH_BYTES]
+/// Returns the node with a number above two nodes, the left and the right one.
+pub fn inner(identifier: &[u8; 16], number: u32, left: &[u8], right: &[u8]) -> [u8; HASH_BYTES]
     ensures { result ≡ inner identifier.now number left.now right.now }
 {
     let mut hasher = Sha256::new();
