@@ -1,0 +1,4 @@
+use Rattle.gen_lms.proofs.subtrees.+subtree_root.Given as goal
+
+abbrev pub decreases-subtree_root : goal.decreases-subtree_root
+decreases-subtree_root l = l.level
