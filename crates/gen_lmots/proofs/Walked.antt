@@ -16,15 +16,6 @@ use Rattle.gen_lmots.specs.Strings.{u32str, type_code}
 pub written : (a rest b : List ℕ) (n k : ℕ) → length a ≡ n → take n (a ++ rest) ++ (b ++ drop k (drop n (a ++ rest))) ≡ (a ++ b) ++ drop k rest
 written a rest b n k len = rw (take_at a rest n len, drop_at a rest n len) (sym (append_assoc a b (drop k rest)))
 
--- a text of a step, in which the step's number and the value are written
-pub step-text : (text value : List ℕ) (step : ℕ) → length text ≡ 55
-    → take 23 (slice_set text 22 step) ++ (value ++ drop 32 (drop 23 (slice_set text 22 step))) ≡ take 22 text ++ (step ∷ [] ++ value)
-step-text text value step len =
-    let set = slice_set text 22 step in
-    let front : take 23 set ≡ take 22 text ++ step ∷ [] = take_more_set text 22 step (omega (arith, len)) in
-    let behind : drop 32 (drop 23 set) ≡ [] = drop_of_length-le (drop 23 set) {i = 32} (omega (arith, length-drop 23 set, length-set text 22 step, len)) in
-    rw (front, behind, append-nil value) (append_assoc (take 22 text) (step ∷ []) value)
-
 -- ---- steps
 
 pub chained-zero : (place : KeyPlace) (i j : ℕ) (value : List ℕ) → chained place i j 0 value ≡ value

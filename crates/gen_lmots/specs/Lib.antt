@@ -1,5 +1,6 @@
 pub mod Chains
 pub mod Coefficients
 pub mod Keys
+pub mod Loops
 pub mod Signatures
 pub mod Strings

@@ -3,6 +3,7 @@ ghost use Rattle.std.specs.Prelude.{◌≡◌, ℕ, ◌<◌, ◌≤◌, ◌*◌,
 ghost use Rattle.gen_lmots.specs.Coefficients.{checksum, coefficient, steps_signed};
 ghost use Rattle.gen_lmots.specs.Strings.{u16str};
 
+use crate::dealing::WALKS;
 use crate::sizes::{
     CHAIN_STEPS, CHAINS, CHECKSUM_SHIFT, HASH_BYTES, HASH_COEFFICIENTS, WINTERNITZ,
 };
@@ -43,9 +44,9 @@ fn checked(hash: &[u8; HASH_BYTES]) -> [u8; CHECKED_BYTES]
     bytes
 }
 
-/// Returns for each chain how many steps the signature of a hash takes in it: the coefficients of the hash,
-/// and behind them those of its checksum.
-pub fn steps_signed(hash: &[u8; HASH_BYTES]) -> [u8; CHAINS]
+// Returns for each chain how many steps the signature of a hash takes in it: the coefficients of the hash,
+// and behind them those of its checksum.
+fn steps_signed(hash: &[u8; HASH_BYTES]) -> [u8; CHAINS]
     ensures value { (i : ℕ) → i < CHAINS → slice_index result i ≡ steps_signed hash.now i }
     ensures within { (i : ℕ) → i < CHAINS → slice_index result i ≤ CHAIN_STEPS }
 {
@@ -53,6 +54,20 @@ pub fn steps_signed(hash: &[u8; HASH_BYTES]) -> [u8; CHAINS]
     let mut steps = [0; CHAINS];
     'chains: for i in 0..CHAINS {
         steps[i] = coefficient(&string, i);
+    }
+    steps
+}
+
+/// Returns the same for each walk, where those behind the chains have this number of steps.
+pub fn steps_dealt(hash: &[u8; HASH_BYTES], behind: u16) -> [u16; WALKS]
+    requires { behind ≤ CHAIN_STEPS }
+    ensures value { (i : ℕ) → i < CHAINS → slice_index result i ≡ steps_signed hash.now i }
+    ensures within { (i : ℕ) → i < WALKS → slice_index result i ≤ CHAIN_STEPS }
+{
+    let signed = steps_signed(hash);
+    let mut steps = [behind; WALKS];
+    'chains: for i in 0..CHAINS {
+        steps[i] = u16::from(signed[i]);
     }
     steps
 }

@@ -1,16 +1,21 @@
 //! One-time keys.
-ghost use Rattle.std.specs.Prelude.{◌≡◌, ◌≤◌, ◌+◌, ◌*◌, ◌++◌, List, ℕ, length, vec_len, vec_capacity, true, false};
-ghost use Rattle.gen_lmots.specs.Keys.{public_key};
+ghost use Rattle.std.specs.Prelude.{◌≡◌, ◌≤◌, ◌+◌, ◌*◌, ◌<◌, ◌++◌, List, [], ℕ, length, slice_index, slice_index_or, vec_len, vec_capacity, true, false};
+ghost use Rattle.gen_lmots.specs.Chains.{chained};
+ghost use Rattle.gen_lmots.specs.Keys.{public_key, secret};
 ghost use Rattle.gen_lmots.specs.Signatures.{candidate, shown, signature_of};
 ghost use Rattle.gen_lmots.specs.declared.places.KeyPlace.{KeyPlace};
 
 use crate::appending::append;
-use crate::chains::{begun_key, chained, message_hash, secret};
-use crate::coefficients::steps_signed;
+use crate::chains::{begun_key, message_hash};
+use crate::coefficients::steps_dealt;
+use crate::dealing::{WALKS, WHOLE_CHAIN, all_walked, by_length, in_turn, walks_of};
 use crate::places::KeyPlace;
 use crate::sizes::{CHAIN_STEPS, CHAINS, HASH_BYTES, OTS_BYTES, TYPE_CODE};
 use sha2::Digest;
 use std::marker::Model;
+
+/// Where a secret stands in its chain: the number of the step that makes it of the seed.
+const SECRET_AT: u16 = 0xff;
 
 /// A one-time key, which signs one message or is retired. A contract sees its seed and place, and whether it
 /// is still to be spent.
@@ -107,6 +112,29 @@ fn append_signature(
     append_shown(seed, place, &hash, out);
 }
 
+// Returns the secret with which each chain starts.
+fn secrets(seed: &[u8; 32], place: &KeyPlace) -> [[u8; HASH_BYTES]; WALKS]
+    ensures { (i : ℕ) → i < WALKS → slice_index_or result i [] ≡ secret seed.now place.now i }
+{
+    let walks = walks_of(
+        place,
+        &[SECRET_AT; WALKS],
+        &[SECRET_AT + 1; WALKS],
+        &[*seed; WALKS],
+    );
+    all_walked(&walks, &in_turn())
+}
+
+// Returns the value of each chain that stands this many steps from the start of the chain.
+fn values_at(seed: &[u8; 32], place: &KeyPlace, steps: &[u16; WALKS]) -> [[u8; HASH_BYTES]; WALKS]
+    requires { (i : ℕ) → i < WALKS → slice_index steps.now i ≤ CHAIN_STEPS }
+    ensures { (i : ℕ) → i < WALKS → slice_index_or result i []
+        ≡ chained place.now i 0 (slice_index steps.now i) (secret seed.now place.now i) }
+{
+    let walks = walks_of(place, &[0; WALKS], steps, &secrets(seed, place));
+    all_walked(&walks, &by_length(&walks))
+}
+
 // Appends what the signature of a hash shows of each chain. The vector must have room for it.
 fn append_shown(seed: &[u8; 32], place: &KeyPlace, hash: &[u8; HASH_BYTES], out: &mut Vec<u8>)
     requires { vec_len out.old + HASH_BYTES * CHAINS ≤ vec_capacity out.old }
@@ -114,11 +142,9 @@ fn append_shown(seed: &[u8; 32], place: &KeyPlace, hash: &[u8; HASH_BYTES], out:
     ensures len { vec_len out.new ≡ vec_len out.old + HASH_BYTES * CHAINS }
     ensures capacity { vec_capacity out.old ≤ vec_capacity out.new }
 {
-    let steps = steps_signed(hash);
+    let values = values_at(seed, place, &steps_dealt(hash, 0));
     'chains: for i in 0..CHAINS {
-        let start = secret(seed, place, i as u16);
-        let value = chained(place, i as u16, 0, steps[i], &start);
-        append(out, &value);
+        append(out, &values[i]);
     }
 }
 
@@ -126,11 +152,10 @@ fn append_shown(seed: &[u8; 32], place: &KeyPlace, hash: &[u8; HASH_BYTES], out:
 pub fn public_key(seed: &[u8; 32], place: &KeyPlace) -> [u8; HASH_BYTES]
     ensures { result ≡ public_key seed.now place.now }
 {
+    let ends = values_at(seed, place, &[WHOLE_CHAIN; WALKS]);
     let mut hasher = begun_key(place);
     'chains: for i in 0..CHAINS {
-        let start = secret(seed, place, i as u16);
-        let end = chained(place, i as u16, 0, CHAIN_STEPS, &start);
-        hasher.update(&end);
+        hasher.update(&ends[i]);
     }
     hasher.finalize()
 }

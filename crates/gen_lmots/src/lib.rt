@@ -7,6 +7,8 @@
 //! "Leighton-Micali Hash-Based Signatures", RFC 8554, section 4). The secrets come from a seed, as appendix A
 //! of the RFC has them.
 //!
+//! The steps of eight chains at a time are taken side by side, in the lanes of vectors (`sha_short`).
+//!
 //! What is promised: each call gives the bytes that its contract names, a key signs at most one message, and
 //! code that drops an unspent key can't be proved. A signature that a key makes stands for the public key.
 //!
@@ -18,10 +20,12 @@
 mod appending;
 mod chains;
 mod coefficients;
+mod dealing;
 mod keys;
 mod places;
 mod signatures;
 pub mod sizes;
+mod walks;
 
 pub use appending::append;
 pub use keys::{OneTimeKey, public_key, signature_stands_for_its_key};

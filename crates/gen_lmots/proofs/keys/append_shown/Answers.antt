@@ -1,4 +1,4 @@
-use Rattle.std.proofs.Common.{◌≡◌, ◌-◌, ◌++◌, List, ℕ, length, slice_index, add-one, append_assoc, sym, ap, ◌∙◌, arith}
+use Rattle.std.proofs.Common.{◌≡◌, ◌++◌, List, [], ℕ, length, slice_index_or, add-one, append_assoc, sym, ap, ◌∙◌, arith}
 use Rattle.std.proofs.lemmas.List.{append-nil}
 use Rattle.gen_lmots.specs.Chains.{chained}
 use Rattle.gen_lmots.specs.Coefficients.{steps_signed}
@@ -25,12 +25,13 @@ chains-preserved c =
     let i = c.chains.i in
     let before = shown seed place hash i in
     let one = chained place i 0 (steps_signed hash i) (secret seed place i) in
-    let steps = c.steps_signed-steps.ensures.value i (omega arith) in
-    let taken : slice_index c.steps_signed-steps.result i - 0 ≡ steps_signed hash i = omega (arith, steps) in
-    let value : c.chained-value.result ≡ one = rw (← taken, ← c.secret-start.ensures) c.chained-value.ensures in
-    let wide : length c.chained-value.result ≡ 32 = rw value (length-shown_value seed place hash i) in (
+    let shown_value = slice_index_or c.values_at-values.result i [] in
+    let value : shown_value ≡ one =
+    c.values_at-values.ensures i (omega arith)
+    ∙ ap (λ (n : ℕ). chained place i 0 n (secret seed place i)) (c.steps_dealt.ensures.value i (omega arith)) in
+    let wide : length shown_value ≡ 32 = rw value (length-shown_value seed place hash i) in (
       rw (add-one, shown-suc)
-          (c.append.ensures.items ∙ ap (λ (x : List ℕ). x ++ c.chained-value.result) c.chains.invariant.0
+          (c.append.ensures.items ∙ ap (λ (x : List ℕ). x ++ shown_value) c.chains.invariant.0
           ∙ ap (λ (x : List ℕ). (items ++ before) ++ x) value ∙ append_assoc items before one),
       omega (arith, c.append.ensures.len, c.chains.invariant.1, wide),
       omega (arith, c.append.ensures.capacity, c.chains.invariant.2),

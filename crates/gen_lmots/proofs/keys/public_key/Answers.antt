@@ -1,8 +1,9 @@
-use Rattle.std.proofs.Common.{◌≡◌, ◌+◌, ◌++◌, List, ℕ, add-one, append_assoc, subst, ap, ◌∙◌, arith}
-use Rattle.std.proofs.lemmas.List.{append-nil}
+use Rattle.std.proofs.Common.{◌≡◌, ◌+◌, ◌++◌, List, [], ℕ, replicate, slice_index, slice_index_or, add-one, append_assoc, subst, ap, ◌∙◌, arith}
+use Rattle.std.proofs.lemmas.List.{append-nil, get_or-replicate}
 use Rattle.sha2.specs.Hashers.{Holds256}
 use Rattle.sha2.specs.Sha256.{sha256}
 use Rattle.gen_lmots.specs.Chains.{chained}
+use Rattle.gen_lmots.specs.declared.dealing.TheConstants.{WALKS}
 use Rattle.gen_lmots.specs.Keys.{ends, public_key, secret}
 use Rattle.gen_lmots.specs.Strings.{d_pblc, front, u16str}
 use Rattle.gen_lmots.proofs.Walked.{ends-zero, ends-suc}
@@ -17,9 +18,17 @@ chains-preserved c =
     let place = c.args.place.now in
     let i = c.chains.i in
     let before = front place ++ u16str d_pblc in
-    let more : (before ++ ends seed place i) ++ c.chained-end.result ≡ before ++ ends seed place (i + 1)
-    = rw (add-one, ends-suc, c.chained-end.ensures, c.secret-start.ensures) (append_assoc before (ends seed place i) (chained place i 0 15 (secret seed place i))) in
+    let fifteen : slice_index (replicate WALKS 15) i ≡ 15 = get_or-replicate WALKS i 15 0 (omega arith) in
+    let end : slice_index_or c.values_at-ends.result i [] ≡ chained place i 0 15 (secret seed place i) =
+    c.values_at-ends.ensures i (omega arith) ∙ ap (λ (n : ℕ). chained place i 0 n (secret seed place i)) fifteen in
+    let more : (before ++ ends seed place i) ++ slice_index_or c.values_at-ends.result i [] ≡ before ++ ends seed place (i + 1)
+    = rw (add-one, ends-suc, end) (append_assoc before (ends seed place i) (chained place i 0 15 (secret seed place i))) in
     subst (λ (x : List ℕ). Holds256 c.update.new.self x) more (c.update.ensures (before ++ ends seed place i) c.chains.invariant)
+
+pub values_at-ends-requires : goal.values_at-ends-requires
+values_at-ends-requires c i below =
+    let fifteen : slice_index (replicate WALKS 15) i ≡ 15 = get_or-replicate WALKS i 15 0 below in
+    omega (arith, fifteen)
 
 pub returns : goal.returns
 unfolding public_key

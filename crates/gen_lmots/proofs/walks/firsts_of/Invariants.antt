@@ -1,0 +1,10 @@
+use Rattle.std.proofs.Common.{◌≡◌, ℕ, ◌<◌, ◌*◌, [], length, take, slice_index, slice_index_or}
+use Rattle.sha_lanes.specs.declared.words.TheConstants.{LANES}
+use Rattle.gen_lmots.specs.declared.walks.Walk.{Walk}
+use Rattle.gen_lmots.specs.Strings.{front}
+use Rattle.gen_lmots.proofs.walks.firsts_of.Given as goal
+
+abbrev pub invariant-lanes : goal.invariant-lanes
+invariant-lanes l =
+    (length l.firsts ≡ LANES)
+    × ((k : ℕ) → k < l.j → (d : Walk) → slice_index l.firsts k ≡ (slice_index_or l.walks k d).first)
