@@ -307,6 +307,8 @@ def wanted_of(program, given):
     kinds |= {b"SMR1": ["receipts"], b"SMR2": ["receipts"]}
     if given[:4] in kinds:
         return spoken(run(program, kinds[given[:4]], given))
+    if given.startswith(b"generals "):
+        return spoken(run(program, ["decide"], given))
     lines = [spoken(run(program, [job], given))[1] for job in ("audit", "evidence")]
     return 3, b"\n".join(lines)
 
@@ -372,6 +374,9 @@ def named_files(program):
         "one.receipts": receipts[1],
         "both.receipts": b"".join([*receipts, *others]),
         "cut.receipts": receipts[0][:-1],
+        "split.scenario": read(EXAMPLES, "split.scenario"),
+        "one_too_many.scenario": read(EXAMPLES, "one_too_many.scenario"),
+        "wrong.scenario": read(EXAMPLES, "split.scenario").replace(b"make 1 2", b"make 9 2"),
         "README.md": read(TOP, "README.md"),
         "empty": b"",
     }
@@ -403,6 +408,8 @@ def try_answers(told, tally):
     starts["few.bundle"] = "Convicted: general 0 by K2. Agreed on order 0 by too few: 2 generals are not assumed faulty, and 3 are needed"
     starts |= {"README.md": "Neither", "empty": "Neither", "split.evidence": "The evidence against general 0 holds"}
     starts |= {"three.receipts": "Shown: more than m", "one.receipts": "Not shown: no more than m", "cut.receipts": "Not judged"}
+    starts |= {"split.scenario": "Generals 1 and 2 decide order 0. They agree.", "wrong.scenario": "Not judged: the scenario has a fault"}
+    starts["one_too_many.scenario"] = "General 2 decides order 1, general 3 decides order 0. They do not agree."
     starts["both.receipts"] = "Not shown: of each of the orders 0, 1 more"
     starts["bent.evidence"] = "The evidence against general 0 fails"
     for name, start in starts.items():
@@ -410,7 +417,7 @@ def try_answers(told, tally):
     for name, it in told.items():
         wants = re.findall(r"^(?:verdict|shown|general|N|convicted|fault|evidence).*", it["text"], re.M)
         tally.hold(f"meanings of {name}", None if it["meanings"] == wants else f"{it['meanings']}")
-        has_run = it["end"] < 2 and not name.endswith((".evidence", ".receipts"))
+        has_run = it["end"] < 2 and not name.endswith((".evidence", ".receipts", ".scenario"))
         tally.hold(f"picture of {name}", None if it["drawn"] == has_run else f"{it['drawn']}")
     looks = [told[f"{name}.bundle"]["look"] for name in ("one_root", "one_left", "disputed", "split")]
     tally.hold("looks", None if len(set(looks)) == 3 and looks[2] == looks[3] else f"{looks}")
@@ -635,6 +642,11 @@ def try_answers_of(program, shown, given, tally, folder):
     try_answers(told, tally)
     is_there = shown.run(f"document.getElementById('answers').textContent.includes({json.dumps(DISPUTE)})")
     tally.hold("whose log has the message", None if is_there else "it is not said")
+    shown.run("document.getElementById('decide').click()")
+    given.count += 1
+    shown.wait(f"document.querySelectorAll('article').length >= {given.count}")
+    said = shown.run("last.then(answers)")[-1]["said"]
+    tally.hold("a scenario that is written", None if said.startswith("Generals 1 and 2 decide order 0.") else said)
     listed = shown.run("[...document.querySelectorAll('details li')].map(it => it.textContent)")
     is_there = "from 0 to 2 round 1 order 1 path 0: only the log of 0 has it" in listed
     tally.hold("the words of a picture", None if is_there else f"{listed[:5]}")

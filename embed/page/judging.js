@@ -13,6 +13,7 @@ const WITH_OPTIONS = ["sm_audit", "sm_draw", "sm_accuse", "sm_evidence", "sm_rec
 const KINDS = {
   SMB1: "bundle", SMB2: "bundle", SMC2: "campaign", SME1: "evidence", SME2: "evidence", SMR1: "receipts", SMR2: "receipts",
 };
+const SCENARIO = "generals ";
 // The kinds of facts that are read here, and the words of verdicts by their numbers.
 const FACT_RUN = 1, FACT_FINDING = 4, FACT_CONVICTION = 5, FACT_ACROSS = 6;
 const VERDICTS = [, "agreed", "explained", "no"];
@@ -109,10 +110,10 @@ function told(of, call, text) {
   return textOf(bytes);
 }
 
-// What the first four bytes say that a file is.
+// What the first bytes say that a file is: a mark, or the first word of a scenario.
 function kindOf(given) {
-  const mark = String.fromCharCode(...given.subarray(0, 4));
-  return KINDS[mark] ?? "neither";
+  const begins = count => String.fromCharCode(...given.subarray(0, count));
+  return KINDS[begins(4)] ?? (begins(SCENARIO.length) === SCENARIO ? "scenario" : "neither");
 }
 
 // The evidence against each general that is convicted, weighed by the module as a file of evidence would be.
@@ -159,6 +160,12 @@ function counted(of, input, runs) {
   return { end, text: textOf(bytes) };
 }
 
+// What the generals of a scenario decide.
+function decided(of, input) {
+  const { end, bytes } = ask(of, "sm_decide", [input]);
+  return { end, text: textOf(bytes) };
+}
+
 // Of each run the pair of generals that no walk joins, if the verdict says that a walk is missing.
 function partedBy(of, input, runs, facts) {
   if (!facts.some(it => it.kind === FACT_FINDING && it.number === 10)) return [];
@@ -178,7 +185,7 @@ function audited(of, input, runs) {
 // An answer with what the module says of the file that it is about: what is shown of the file, what evidence claims, and
 // the lines of the answer and those beside it with their words.
 function described(of, input, answer, beside = "") {
-  const { end, bytes } = ask(of, "sm_show", [input]), isShown = !["neither", "receipts"].includes(answer.kind);
+  const { end, bytes } = ask(of, "sm_show", [input]), isShown = !["neither", "receipts", "scenario"].includes(answer.kind);
   const shown = isShown ? textOf(bytes) : "";
   if (end === MEMORY) return { kind: answer.kind, end, text: "", shown: "", words: "" };
   const about = /^kind (\d)/m.exec(shown);
@@ -190,6 +197,7 @@ function described(of, input, answer, beside = "") {
 // The answer on a file of a kind.
 function answerOn(of, kind, input, runs) {
   if (kind === "receipts") return counted(of, input, runs);
+  if (kind === "scenario") return decided(of, input);
   if (kind === "bundle" || kind === "campaign") return audited(of, input, runs);
   return weighed(of, kind, input, kind === "evidence" ? runs : NOTHING);
 }

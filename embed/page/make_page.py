@@ -37,7 +37,7 @@ CRATE = "sm_embed"
 KITS = ("rattle-kit-13b", "rattle-kit-13f")
 # What the page calls: of the library, and of its heap.
 EXPORTS = ["sm_audit", "sm_accuse", "sm_draw", "sm_evidence", "sm_receipts", "sm_refute", "sm_show", "sm_explain", "sm_words"]
-EXPORTS += ["sm_answer_text", "sm_answer_facts", "sm_answer_free", "room", "give_back"]
+EXPORTS += ["sm_decide", "sm_answer_text", "sm_answer_facts", "sm_answer_free", "room", "give_back"]
 # The parts of the page's script, in their order.
 SCRIPTS = ["judging.js", "reading.js", "report.js", "page.js"]
 # What LLVM says of the layout of values on the one target and on the other.

@@ -8,6 +8,7 @@ const KEY_BYTES = 8;
 const TRIED = Uint8Array.of(0, 97, 115, 109, 1, 0, 0, 0, 5, 3, 1, 4, 1);
 const LACKING = "This browser has no 64-bit memories for WebAssembly, so this page can judge nothing here. "
   + "Take a newer browser, or the program sm_tool.";
+const ANY_RUN = "any: no run id was given, so compare the run id below with one that you know";
 const NO_RUN_ID = "The expected run id is not 64 hexadecimal digits, nor two to four of these with commas between them. "
   + "No file was judged.";
 // The names of the answers in the page's style: agreed, explained or agreed by too few, a no, and all else.
@@ -44,6 +45,7 @@ function generalsIn(numbers) {
 // What an answer comes to, a name of LOOKS; nothing where nothing was judged.
 function outcomeOf({ kind, end, verdicts, file }) {
   if (end > NO) return "";
+  if (kind === "scenario") return "decided";
   if (kind === "reply") return end === YES ? "answered" : "unanswered";
   if (kind === "evidence") return end === YES ? "holds" : "fails";
   if (kind === "receipts") return end === YES ? "shown" : "not shown";
@@ -76,7 +78,7 @@ function unjudged({ kind, end, text }) {
   if (end === MEMORY) return "Not judged: memory was refused.";
   const [is, has] = kind === "receipts" ? ["are", "have"] : ["is", "has"];
   if (end === OTHER) return `Not judged: the ${kind} ${is} of another run than the one that you expect.`;
-  if (kind === "neither") return "Neither a bundle, nor a campaign, nor evidence, nor receipts.";
+  if (kind === "neither") return "Neither a bundle, nor a campaign, nor evidence, nor receipts, nor a scenario.";
   if (kind === "reply") return `Not judged: the ${text.startsWith("fault V") ? "evidence" : "log"} has a fault.`;
   return `Not judged: the ${kind} ${has} a fault.`;
 }
@@ -148,12 +150,25 @@ function receiptsHeadline(outcome, { text }) {
     + "So more than m generals are faulty, or keys were stolen or used twice.";
 }
 
+// The sentence for a scenario: who decides what. A general with a script is a traitor, and has no line.
+function scenarioHeadline({ text }) {
+  const by = new Map();
+  for (const [, general, order] of text.matchAll(/^general (\d+) set \S+ decides (\d+)$/gm)) {
+    by.set(order, [...by.get(order) ?? [], Number(general)]);
+  }
+  const said = [...by].map(([order, generals]) => `${generalsIn(generals)} ${generals.length === 1 ? "decides" : "decide"} order ${order}`);
+  if (!said.length) return "Nobody decides: each general has a script.";
+  const whole = `${said.join(", ")}. ${by.size === 1 ? "They agree." : "They do not agree."}`;
+  return whole[0].toUpperCase() + whole.slice(1);
+}
+
 // The answer in one sentence.
 function headline(outcome, answer) {
   if (!outcome) return unjudged(answer);
   if (answer.kind === "reply") return replyHeadline(outcome, answer);
   if (answer.kind === "evidence") return `The evidence against general ${answer.file.accused} ${outcome}.`;
   if (answer.kind === "receipts") return receiptsHeadline(outcome, answer);
+  if (answer.kind === "scenario") return scenarioHeadline(answer);
   return answer.kind === "campaign" ? campaignHeadline(outcome, answer) : bundleHeadline(outcome, answer);
 }
 
@@ -200,7 +215,7 @@ function fileFacts(given, answer) {
   const when = new Date().toISOString().replace("T", " ").slice(0, 16);
   return factsOf([
     ...givenFacts(given, answer),
-    ["Expected run", given.expected || "any: no run id was given, so compare the run id below with one that you know"],
+    ...(answer.kind === "scenario" ? [] : [["Expected run", given.expected || ANY_RUN]]),
     ["Judged", `${when} UTC, in ${answer.took.toFixed(0)} ms`],
     ["By this page", `Vamuretu ${version}, compiled by ${kit}`],
     ["SHA-256 of its module", module],
@@ -510,6 +525,7 @@ function begin() {
   judge = new Judge(document.currentScript.textContent, bytesOf(byId("module").textContent));
   byId("file").addEventListener("change", it => { take(it.target.files); it.target.value = ""; });
   byId("stop").addEventListener("click", () => judge.stop("it was stopped"));
+  byId("decide").addEventListener("click", () => take([new File([byId("scenario").value], "scenario")]));
   for (const name of ["dragenter", "dragover"]) {
     document.addEventListener(name, it => {
       it.preventDefault();
