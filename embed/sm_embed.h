@@ -14,7 +14,7 @@
 
      SM_OK       the answer is held, and is not a no
      SM_NO       the answer is held, and is a no
-     SM_MISUSE   the number of a general is above 15, the options have more than four run ids or a form that is
+     SM_MISUSE   the number of the general is above 15, the options have more than four run ids or a form that is
                  none or run ids beside an admission or a system that is no id or stands without an admission, or a
                  pointer is null though there are bytes, and nothing is held
      SM_FAULT    the input has a fault. The line that sm_tool prints of it is held, without its line feed and without
@@ -57,9 +57,8 @@ typedef struct {
 
 /* The forms of the text of an answer. */
 enum sm_form {
-    SM_TEXT = 0,   /* lines, each ended by a line feed */
-    SM_JSON = 1,   /* one line with a JSON object, as by --json; of sm_show a line for each object */
-    SM_PICTURE = 2 /* of sm_told alone: the picture of a verdict, an SVG text */
+    SM_TEXT = 0, /* lines, each ended by a line feed */
+    SM_JSON = 1  /* one line with a JSON object, as by --json; of sm_show a line for each object */
 };
 
 /* What is asked besides the input. Null in place of options is as options that are all 0. */
@@ -136,26 +135,9 @@ typedef struct {
 
 /* The verdict on a bundle or a campaign, as sm_tool audit. The answer is a no if and only if the verdict on the bundle,
    or on a run of the campaign, is no. At SM_OK the facts say whether the verdict is `agreed` or `explained`. Returns
-   SM_OK, SM_NO, SM_MISUSE, SM_FAULT, SM_MEMORY or SM_OTHER. The answer keeps what was judged, with a copy of the input:
-   sm_told, sm_evidence_in and sm_held ask it for more, and verify no signature again. */
+   SM_OK, SM_NO, SM_MISUSE, SM_FAULT, SM_MEMORY or SM_OTHER. */
 uint32_t sm_audit(const uint8_t *input, size_t input_bytes, const sm_options *options, sm_answer *answer)
     SM_CALL(1, 3, 4);
-
-/* What `judged`, an answer of sm_audit or sm_held, has judged, in a form: SM_TEXT and SM_JSON as sm_tool audit, SM_PICTURE
-   as sm_tool draw, which is never a no. Runs and `strict` are those of sm_audit. The answer has no facts, and `judged`
-   stays as it is. Returns SM_OK, SM_NO, SM_MEMORY, or SM_MISUSE if nothing was judged. */
-uint32_t sm_told(sm_answer *judged, uint32_t form, sm_answer *answer) SM_CALL(1, 3);
-
-/* The evidence against a general in what `judged` has judged, as sm_tool accuse --general G: bytes, and no text. If there
-   is none, the answer is a no of 0 bytes. `judged` stays as it is. Returns SM_OK, SM_NO, SM_MEMORY, SM_NOBODY, or
-   SM_MISUSE if nothing was judged. */
-uint32_t sm_evidence_in(sm_answer *judged, uint32_t general, sm_answer *answer) SM_CALL(1, 3);
-
-/* The verdict on what `judged` has judged, if these generals are assumed faulty in place of those that the input lists,
-   bit g for general g, as sm_tool audit --faulty: the text and the facts, and an answer that has judged so. `judged`
-   stays as it is. Returns SM_OK, SM_NO, SM_MEMORY, SM_FAULT if a run lacks one of the generals, or SM_MISUSE if nothing
-   was judged or a bit above 15 is set. */
-uint32_t sm_held(sm_answer *judged, uint32_t faulty, sm_answer *answer) SM_CALL(1, 3);
 
 /* The picture of a bundle or a campaign and of the verdict on it, as sm_tool draw: an SVG text, and never a no. Returns
    SM_OK, SM_MISUSE, SM_FAULT, SM_MEMORY or SM_OTHER. */

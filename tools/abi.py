@@ -45,7 +45,7 @@ OF_RUST = {"u8": "uint8_t", "u32": "uint32_t", "u64": "uint64_t", "i64": "int64_
 # The statuses and other numbers that the packages and the page repeat, by their names in the headers.
 PYTHON_NUMBERS = {
     _jobs: {"YES": "SM_OK", "NO": "SM_NO", "MISUSE": "SM_MISUSE", "FAULT": "SM_FAULT", "MEMORY": "SM_MEMORY",
-            "NOBODY": "SM_NOBODY", "OTHER_RUN": "SM_OTHER", "TEXT": "SM_TEXT", "JSON": "SM_JSON", "PICTURE": "SM_PICTURE",
+            "NOBODY": "SM_NOBODY", "OTHER_RUN": "SM_OTHER", "TEXT": "SM_TEXT", "JSON": "SM_JSON",
             "RUN_ID_BYTES": "SM_RUN_ID_BYTES", "RUNS_MOST": "SM_RUNS_MOST"},
     _headers: {"DONE": "SM_OK", "MISUSE": "SM_MISUSE", "BAD": "SM_FAULT", "REFUSED": "SM_MEMORY",
                "ROOT_BYTES": "SM_ROOT_BYTES"},
@@ -55,7 +55,7 @@ PYTHON_NUMBERS = {
     _combining.Combination: {"MEDIAN": "SM_MEDIAN", "MAJORITY": "SM_MAJORITY", "ALL": "SM_ALL"},
 }
 RUST_NUMBERS = {"OK": "SM_OK", "NO": "SM_NO", "FAULT": "SM_FAULT", "MEMORY": "SM_MEMORY", "SHORT": "SM_LENGTH",
-                "NOBODY": "SM_NOBODY", "OTHER": "SM_OTHER", "TEXT": "SM_TEXT", "JSON": "SM_JSON", "PICTURE": "SM_PICTURE",
+                "NOBODY": "SM_NOBODY", "OTHER": "SM_OTHER", "TEXT": "SM_TEXT", "JSON": "SM_JSON",
                 "NO_ORDER": "SM_NO_ORDER", "NO_RUN": "SM_NO_RUN", "MEDIAN": "SM_MEDIAN",
                 "MAJORITY": "SM_MAJORITY", "ALL": "SM_ALL", "VERSION_NUMBER": "SM_VERSION_NUMBER", "FACT_RUN": "SM_FACT_RUN",
                 "FACT_STATUS": "SM_FACT_STATUS", "FACT_DECISION": "SM_FACT_DECISION",

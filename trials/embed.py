@@ -32,7 +32,6 @@ from pinned import FILES, answer_of, lists_of, nearly, pinned_cases, read, runs_
 from programs import End, by_library, differs, run, side_by_side, spell
 from refusals import EXAMPLES, OF_MEMORY, build as build_refusing, count_up, refused
 from scenarios import chain, everybody, header_text, ring, scenario, signed, sixteen
-from told import try_nothing_judged, try_refused, try_told
 
 TOP = os.path.dirname(os.path.dirname(os.path.abspath(__file__)))
 EMBED = os.path.join(TOP, "embed")
@@ -396,7 +395,6 @@ def try_refused_calls(program, tally, folder):
     made, heap = os.path.join(folder, "refusing.so"), os.path.join(TOP, "trials", "refusing_heap.c")
     do(["cc", "-std=c11", *WARNINGS, "-fPIC", "-shared", heap, "-Wl,--whole-archive", ARCHIVE, "-Wl,--no-whole-archive", "-o", made])
     native, nothing = Native(made), ("options", NOTHING)
-    try_refused(tally, native)
     left, blocks = (ctypes.c_long.in_dll(native.calls, name) for name in ("left", "blocks"))
     split = run(program, ["run"], signed()["split"]).wrote
     evidence = run(program, ["accuse", "--general", "0"], split).wrote
@@ -587,8 +585,6 @@ def try_built(program, tally, folder):
     try_facts(program, tally, native, judged)
     try_general(tally, program, native)
     try_reply(tally, program, native)
-    try_told(program, tally, native)
-    try_nothing_judged(tally, native)
     try_near(tally, program, native)
     try_options(tally, native)
     try_document(tally, folder)

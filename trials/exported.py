@@ -51,12 +51,11 @@ def kind_of(name, said):
 
 def declared():
     """What each call takes that makes an answer of an input, in its order. Those that take a part of a fixed length, or files, are
-    in system_calls.py alone, and so is sm_enroll, which makes keys. Those that take an answer are in told.py.
+    in system_calls.py alone, and so is sm_enroll, which makes keys.
     """
     functions = functions_of_header("sm_embed")
     kinds = {name: list(filter(None, (kind_of(*it) for it in parameters))) for name, (parameters, _) in functions.items()}
     others = ("sm_answer_text", "sm_answer_facts", "sm_answer_free", "sm_enroll", "sm_system", "sm_admission")
-    others += ("sm_told", "sm_evidence_in", "sm_held")
     return {name: takes for name, takes in kinds.items() if "answer" in takes and name not in others}
 
 

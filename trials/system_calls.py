@@ -10,13 +10,11 @@ import tempfile
 from bends import bend_bytes
 from draws import Draws
 from exported import ARCHIVE, Native, build_shared
-from facts import row
 from identities import System, digest
 from node_calls import Node, bundle_of
 from nodes import Library
 from processes import try_with_library
 from programs import run
-from told import FORMS, audited
 
 SEED = "system calls"
 SYSTEMS, JUDGED, BENT = 24, 6, 8
@@ -201,23 +199,6 @@ def judged(of, name, words, front, given, admission, system, form=0, receipts=0)
     return status, facts_in(held[length:])
 
 
-def try_told(of, bundle):
-    """All that is told of a bundle that was judged by its admission, and of it with another list, beside the program."""
-    admission, told = of.system.admission, [row(KIND_OF_SYSTEM, number=of.system.run, run_id=of.id)]
-    told += [row(KIND_OF_NODE, general=general, other=node) for general, node in enumerate(of.nodes(of.system.run))]
-    with tempfile.TemporaryDirectory() as folder:
-        asked, once = asked_words(folder, admission, of.id), audited(of.native, bundle, admission=admission, system=of.id)
-        for judged_so, listed in ((once, []), (once.under(1), ["--faulty", "0"])):
-            for form, words in FORMS.items():
-                end = run(of.program, [*words, *listed, *asked], bundle)
-                of.tally.hold(f"{of.name}, form {form} {listed}", None if judged_so.asked("sm_told", form)[:2] == end[:2] else f"{end}"[:300])
-            end = run(of.program, ["accuse", "--general", "0", *asked], bundle)
-            of.tally.hold(f"{of.name}, evidence {listed}", None if judged_so.asked("sm_evidence_in", 0)[:2] == end[:2] else f"{end}"[:300])
-            kept = judged_so.kept() or (b"", [])
-            of.tally.hold(f"{of.name}, facts {listed}", None if kept[1][: len(told)] == told else f"{kept[1][:3]}")
-            judged_so.free()
-
-
 def try_judged(of, library):
     """All calls with options on a bundle of a run and on what comes of it, of the own admission and of others."""
     number, system = of.system.run, of.system
@@ -246,7 +227,6 @@ def try_judged(of, library):
         other_set = of.admission_of("another set", (number + system.runs_of_set) % system.run_count, system.bytes, files, None)
         for words, name, front, given in cases[:6]:
             judged(of, name, words, front, given, other_set, of.id)
-    try_told(of, bundle)
     options = (b"", 0, 0, 0, system.admission)
     of.told("no general", ("sm_accuse", ("number", 15), ("input", bundle), ("options", options)), (NOBODY, None))
 

@@ -57,9 +57,9 @@ KNOWN[TWO] = ("agreed", ORDER, [2], [], [])
 KNOWN[LOST] = ("agreed", ORDER, [0], [[1]], [])
 KNOWN[BOTH] = ("no", None, [0], [], [0])
 CONVICTED = {(LIAR, 2, "K2"), (TWO, 2, "K1")}
-# How many whole audits the judging of a run takes, where it is not one. Other lists are judged by the first, and the bundle with the
-# list of the verdict is audited again. A late log has its run judged again.
-AUDITS = {GAP: 0, LIAR: 2, TWO: 2, LOST: 2, LATE: 2}
+# How many whole audits the judging of a run takes, where it is not one. A run with a liar is judged without it and with it, and its
+# evidence is one more. At a lost frame each end is tried. A late log has its run judged again.
+AUDITS = {GAP: 0, LIAR: 3, TWO: 3, LOST: 3, LATE: 2}
 ALARMS = {("conviction", LIAR, 2), ("conviction", TWO, 2), ("gap", GAP, None), ("explained", ONE, None), ("missing", ONE, None),
           ("suspected", LOST, None), ("no", BOTH, None)}
 TABLES = {

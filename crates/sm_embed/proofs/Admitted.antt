@@ -7,6 +7,7 @@ use Rattle.gen_asked.specs.declared.jobs.Job.{Job}
 use Rattle.gen_ends.specs.declared.ends.JobFault.{JobFault}
 use Rattle.gen_ends.specs.declared.ends.JobFault.TheVariants as jobs
 use Rattle.gen_facts.specs.declared.fact.Fact.{Fact}
+use Rattle.gen_jobs.specs.declared.in_place.Answered.{Answered}
 use Rattle.gen_jobs.specs.Facts.{JobFacts}
 use Rattle.gen_jobs.specs.Jobs.{JobAnswers, JobFails}
 use Rattle.gen_enrolling.specs.declared.admitted.AdmittedRuns.{AdmittedRuns}
@@ -21,11 +22,9 @@ use Rattle.sm_embed.specs.Among.{AnswersTold, FactsTold, FailsTold, MakesAmong, 
 use Rattle.sm_embed.specs.EnrollLines.{enroll_number}
 use Rattle.sm_embed.specs.Knowing.{Knows}
 use Rattle.sm_embed.specs.Loops.Keeping.{HasFault, Keeps, KeepsMade}
-use Rattle.sm_embed.specs.Loops.Telling.{AnswersAsked, FactsAsked}
-use Rattle.sm_embed.specs.RunsTold.{TellsText, facts_behind}
+use Rattle.sm_embed.specs.Loops.Telling.{AnswersAsked, FactsAsked, TellsText, facts_behind}
 use Rattle.sm_embed.proofs.Given.{about_fault, about_known, about_nobody, is_made_or}
 use Rattle.sm_embed.specs.declared.kept.Kept.{Kept}
-use Rattle.sm_embed.specs.declared.answering.MadeAnswer.{MadeAnswer}
 
 -- ---- the runs of an input
 
@@ -56,18 +55,18 @@ facts_asked job admission system input asked is facts a =
     let found : JobFacts (job_among job is.all input) input own = subst (λ (j : Job). JobFacts j input own) is.job_is a.1 in
     (own, found, facts_told is.all (ids_of job input) asked.runs own facts is.own a.2)
 
-by_asked : (job : Job) (admission : List ℕ) (system : Option (List ℕ)) (input : List ℕ) (asked : JobAmong) (is : IsAskedAmong job admission system input asked) (told : Result MadeAnswer JobFault)
+by_asked : (job : Job) (admission : List ℕ) (system : Option (List ℕ)) (input : List ℕ) (asked : JobAmong) (is : IsAskedAmong job admission system input asked) (told : Result Answered JobFault)
     → IfOk told (λ a. AnswersAsked asked input a.output.text.items a.output.negative) → IfOk told (λ a. AnswersTold job is.all input a.output.text.items a.output.negative)
 by_asked job admission system input asked is (Ok a) h = answer_told job admission system input asked is a.output.text.items a.output.negative h
 by_asked job admission system input asked is (Err f) h = tt
 
-facts_by_asked : (job : Job) (admission : List ℕ) (system : Option (List ℕ)) (input : List ℕ) (asked : JobAmong) (is : IsAskedAmong job admission system input asked) (told : Result MadeAnswer JobFault)
+facts_by_asked : (job : Job) (admission : List ℕ) (system : Option (List ℕ)) (input : List ℕ) (asked : JobAmong) (is : IsAskedAmong job admission system input asked) (told : Result Answered JobFault)
     → IfOk told (λ a. FactsAsked asked input a.facts.items) → IfOk told (λ a. FactsTold job is.all input a.facts.items)
 facts_by_asked job admission system input asked is (Ok a) h = facts_asked job admission system input asked is a.facts.items h
 facts_by_asked job admission system input asked is (Err f) h = tt
 
 -- the answer of a job of runs that are admitted
-pub among_told : (job : Job) (admission : List ℕ) (system : Option (List ℕ)) (input : List ℕ) (asked : JobAmong) (told : Result MadeAnswer JobFault) (held : Option Kept) (status : ℕ)
+pub among_told : (job : Job) (admission : List ℕ) (system : Option (List ℕ)) (input : List ℕ) (asked : JobAmong) (told : Result Answered JobFault) (held : Option Kept) (status : ℕ)
     → IsAskedAmong job admission system input asked
     → IfOk told (λ a. AnswersAsked asked input a.output.text.items a.output.negative)
     → IfOk told (λ a. FactsAsked asked input a.facts.items)
@@ -93,7 +92,7 @@ among_fault job admission system input (Err (errors.Fault f)) held status none f
 -- ---- about a general
 
 -- the number for the line of a fault is none of an answer
-pub enroll_numbered : (f : EnrollFault) → 3 ≤ enroll_number f
+enroll_numbered : (f : EnrollFault) → 3 ≤ enroll_number f
 enroll_numbered (faults.Secret f) = omega arith
 enroll_numbered (faults.Roots f) = omega arith
 enroll_numbered (faults.Text f) = omega arith

@@ -7,13 +7,13 @@ use Rattle.gen_asked.specs.declared.jobs.Job.{Job}
 use Rattle.gen_ends.specs.declared.ends.JobFault.{JobFault}
 use Rattle.gen_ends.specs.declared.ends.JobFault.TheVariants as faults
 use Rattle.gen_facts.specs.declared.fact.Fact.{Fact}
+use Rattle.gen_jobs.specs.declared.in_place.Answered.{Answered}
 use Rattle.gen_jobs.specs.Facts.{JobFacts}
 use Rattle.gen_jobs.specs.Jobs.{JobAnswers, JobFails}
 use Rattle.sm_embed.specs.Knowing.{IsMadeAbout, Knows, MakesKnown}
 use Rattle.sm_embed.specs.Loops.Keeping.{Keeps}
 use Rattle.sm_embed.specs.Making.{IsMade, MakesJob, line_number}
 use Rattle.sm_embed.specs.declared.kept.Kept.{Kept}
-use Rattle.sm_embed.specs.declared.answering.MadeAnswer.{MadeAnswer}
 
 -- by an answer, which says no or doesn't
 by_answer : (A : List ℕ → Bool → Type 0) (B : List Fact → Type 0) (F : JobFault → Type 0) (negative : Bool) (kept : Kept) (status : ℕ) → A kept.text.items negative → B kept.facts.items → status ≡ (if negative then 1 else 0) → IsMade A B F (Some kept) status
@@ -21,20 +21,20 @@ by_answer A B F true kept status a b s = inr (inl (s, (a, b)))
 by_answer A B F false kept status a b s = inl (s, (a, b))
 
 -- an answer or the fault in its place
-pub is_made : (A : List ℕ → Bool → Type 0) (B : List Fact → Type 0) (F : JobFault → Type 0) (answered : Result MadeAnswer JobFault) (held : Option Kept) (status : ℕ) → IfOk answered (λ a. A a.output.text.items a.output.negative) → IfOk answered (λ a. B a.facts.items) → IfErr answered F → Keeps answered held status → IsMade A B F held status
+pub is_made : (A : List ℕ → Bool → Type 0) (B : List Fact → Type 0) (F : JobFault → Type 0) (answered : Result Answered JobFault) (held : Option Kept) (status : ℕ) → IfOk answered (λ a. A a.output.text.items a.output.negative) → IfOk answered (λ a. B a.facts.items) → IfErr answered F → Keeps answered held status → IsMade A B F held status
 is_made A B F answered None status a b f keeps = inr (inr (inr (keeps, refl)))
 is_made A B F (Ok answered) (Some kept) status a b f keeps = by_answer A B F answered.output.negative kept status (subst (λ (k : Kept). A k.text.items answered.output.negative) (sym keeps.0) a) (subst (λ (k : Kept). B k.facts.items) (sym keeps.0) b) keeps.1
 is_made A B F (Err fault) (Some kept) status a b f keeps = inr (inr (inl (fault, f, keeps.0, keeps.1)))
 
 -- the same where memory was refused behind the answer
-pub is_made_or : (A : List ℕ → Bool → Type 0) (B : List Fact → Type 0) (F : JobFault → Type 0) (answered : Result MadeAnswer JobFault) (held : Option Kept) (status : ℕ) → IfOk answered (λ a. A a.output.text.items a.output.negative) → IfOk answered (λ a. B a.facts.items) → IfErr answered (λ f. F f ⊎ (f ≡ faults.Memory)) → Keeps answered held status → IsMade A B F held status
+pub is_made_or : (A : List ℕ → Bool → Type 0) (B : List Fact → Type 0) (F : JobFault → Type 0) (answered : Result Answered JobFault) (held : Option Kept) (status : ℕ) → IfOk answered (λ a. A a.output.text.items a.output.negative) → IfOk answered (λ a. B a.facts.items) → IfErr answered (λ f. F f ⊎ (f ≡ faults.Memory)) → Keeps answered held status → IsMade A B F held status
 is_made_or A B F answered None status a b f keeps = inr (inr (inr (keeps, refl)))
 is_made_or A B F (Ok answered) (Some kept) status a b f keeps = is_made A B F (Ok answered) (Some kept) status a b tt keeps
 is_made_or A B F (Err fault) (Some kept) status a b (inl f) keeps = is_made A B F (Err fault) (Some kept) status a b f keeps
 is_made_or A B F (Err fault) (Some kept) status a b (inr e) keeps = absurd (none-some status (subst (λ (f : JobFault). line_number f ≡ Some status) e keeps.0))
 
 -- the number for a line is none of an answer
-pub numbered : (f : JobFault) (n : ℕ) → line_number f ≡ Some n → 3 ≤ n
+numbered : (f : JobFault) (n : ℕ) → line_number f ≡ Some n → 3 ≤ n
 numbered faults.OtherRun n e = let is : 7 ≡ n = same_Some 7 n e in omega arith
 numbered (faults.Scenario f) n e = let is : 3 ≡ n = same_Some 3 n e in omega arith
 numbered (faults.Campaign f) n e = let is : 3 ≡ n = same_Some 3 n e in omega arith

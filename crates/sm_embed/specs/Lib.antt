@@ -1,12 +1,10 @@
 pub mod Among
 pub mod EnrollLines
 pub mod Handing
-pub mod JudgedRuns
 pub mod Knowing
 pub mod Loops
 pub mod Making
 pub mod Options
 pub mod Owning
 pub mod RunFacts
-pub mod RunsTold
 pub mod Systems

@@ -22,7 +22,7 @@ use std::alloc::{AllocError, Global};
 const GENERALS: u32 = MOST_GENERALS as u32;
 
 /// Returns whether a number is that of a general of some run that is shown.
-pub(crate) fn is_known(general: GeneralNo, shown: &CampaignBundle) -> bool
+fn is_known(general: GeneralNo, shown: &CampaignBundle) -> bool
     ensures { result ≡ is_known general shown.now }
 {
     let number = general.get();

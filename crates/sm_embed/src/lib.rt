@@ -32,7 +32,6 @@ ghost use Rattle.gen_net.specs.declared.version.Version.TheVariants.{One};
 ghost use Rattle.gen_prepare.specs.Answering.{IsAnswered};
 ghost use Rattle.sm_embed.specs.Handing.{Hands};
 ghost use Rattle.sm_embed.specs.Among.{MakesAbout, MakesBy};
-ghost use Rattle.sm_embed.specs.JudgedRuns.{AccusesIn, HoldsIn, JudgesBy, TellsIn};
 ghost use Rattle.sm_embed.specs.Making.{AreNone, HoldsRuns, IsMade, IsMisuse, MakesJob};
 ghost use Rattle.sm_embed.specs.Options.{job_about, job_of, system_in, wanted_in};
 ghost use Rattle.sm_embed.specs.Systems as made;
@@ -41,10 +40,8 @@ ghost use Rattle.sm_embed.specs.declared.options.GeneralTask.TheVariants as abou
 ghost use Rattle.sm_embed.specs.declared.options.Task.TheVariants as tasks;
 
 mod among;
-mod answering;
 mod enroll_lines;
 mod handing;
-mod judged;
 mod kept;
 mod knowing;
 mod loose;
@@ -56,9 +53,7 @@ mod run_facts;
 mod systems;
 
 use crate::among::make;
-use crate::answering::MadeAnswer;
 use crate::handing::put;
-use crate::judged::{held_in, keep_evidence, keep_told};
 use crate::kept::Kept;
 use crate::knowing::make_about;
 use crate::making::{hold, keep, keep_job};
@@ -72,13 +67,13 @@ use crate::systems::{
 use gen_asked::{Job, Telling};
 use gen_campaign::file_runs;
 use gen_facts::Fact;
-use gen_jobs::answer_evidence;
+use gen_jobs::{Answered, answer_evidence};
 use gen_net::Version;
 use std::alloc::Global;
 
 /// Makes the answer of the verdict on the bundle or the campaign that the input spells, as the command `audit` writes it.
 /// Of the options it uses the runs or the admission with its system, `strict` and the form. The facts are those of the
-/// verdict. The answer keeps what was judged: `sm_told`, `sm_evidence_in` and `sm_held` ask it for more.
+/// verdict.
 #[unsafe(no_mangle)]
 pub extern "C" fn sm_audit(
     alloc: Global,
@@ -86,83 +81,10 @@ pub extern "C" fn sm_audit(
     options: &SmOptions,
     answer: &mut SmAnswer,
 ) -> u32
-    ensures made { MakesBy (job_of tasks.Audit) input.now options.now.admission.now (wanted_in options.now)
-        answer.new.held result }
-    // What was judged is kept, as it was asked for.
-    ensures judged { JudgesBy (job_of tasks.Audit) input.now options.now.admission.now (wanted_in options.now)
+    ensures { MakesBy (job_of tasks.Audit) input.now options.now.admission.now (wanted_in options.now)
         answer.new.held result }
 {
     make(alloc, Task::Audit, input, options, answer)
-}
-
-/// Makes the answer of what an answer of `sm_audit` judged, in another form: 0 for the verdict as text, 1 as JSON, and 2 for
-/// the picture, as the commands `audit` and `draw` write them. No signature is verified again. What was asked of the runs
-/// and what counts as a no are those of `sm_audit`. It has no facts, for the other answer has them. It returns 2, and
-/// nothing is held, if the other answer has judged nothing, or if the form is none.
-#[unsafe(no_mangle)]
-pub extern "C" fn sm_told(
-    alloc: Global,
-    judged: &mut SmAnswer,
-    form: u32,
-    answer: &mut SmAnswer,
-) -> u32
-    ensures same { judged.new.held ≡ judged.old.held }
-    ensures told { TellsIn form judged.old.held answer.new.held result }
-{
-    answer.clear(alloc);
-    let Some(kept) = judged.take(alloc) else {
-        return MISUSE;
-    };
-    let number = keep_told(alloc, &kept, form, answer);
-    judged.put(alloc, kept);
-    number
-}
-
-/// Makes the answer of the evidence against a general that an answer of `sm_audit` holds: the bytes that the command
-/// `accuse` writes. No signature is verified again. If there is none, there are no bytes, and the answer says no. It returns
-/// 6, and nothing is held, if the general is none of the run's; and 2 if the other answer has judged nothing, or if the
-/// number is above 15.
-#[unsafe(no_mangle)]
-pub extern "C" fn sm_evidence_in(
-    alloc: Global,
-    judged: &mut SmAnswer,
-    general: u32,
-    answer: &mut SmAnswer,
-) -> u32
-    ensures same { judged.new.held ≡ judged.old.held }
-    ensures evidence { AccusesIn general judged.old.held answer.new.held result }
-{
-    answer.clear(alloc);
-    let Some(kept) = judged.take(alloc) else {
-        return MISUSE;
-    };
-    let number = keep_evidence(alloc, &kept, general, answer);
-    judged.put(alloc, kept);
-    number
-}
-
-/// Makes the answer of the verdict on what an answer of `sm_audit` judged, if the generals of this set are assumed faulty
-/// in place of those that the input lists: bit g is that of general g. It is what `audit --faulty` makes of the input, as text,
-/// and has the facts of it. No signature is verified again. The answer keeps what was judged so. It returns 2, and nothing
-/// is held, if the other answer has judged nothing, or if a bit above 15 is set; and 3 with the line of the fault if a run
-/// lacks one of the generals.
-#[unsafe(no_mangle)]
-pub extern "C" fn sm_held(
-    alloc: Global,
-    judged: &mut SmAnswer,
-    faulty: u32,
-    answer: &mut SmAnswer,
-) -> u32
-    ensures same { judged.new.held ≡ judged.old.held }
-    ensures held { HoldsIn faulty judged.old.held answer.new.held result }
-{
-    answer.clear(alloc);
-    let Some(kept) = judged.take(alloc) else {
-        return MISUSE;
-    };
-    let number = held_in(alloc, &kept, faulty, answer);
-    judged.put(alloc, kept);
-    number
 }
 
 /// Makes the answer of the picture of the bundle or the campaign that the input spells, and of the judgement on it: the
@@ -285,12 +207,12 @@ pub extern "C" fn sm_refute(
     match answer_evidence(alloc, evidence, log) {
         Ok(output) => {
             let (facts, judged) = (Vec::new(alloc), None);
-            let told = MadeAnswer {
+            let answered = Answered {
                 output,
                 facts,
                 judged,
             };
-            keep(alloc, Ok(told), answer)
+            keep(alloc, Ok(answered), answer)
         }
         Err(fault) => keep(alloc, Err(fault), answer),
     }
@@ -357,13 +279,7 @@ pub extern "C" fn sm_run_id(alloc: Global, input: &[u8], answer: &mut SmAnswer) 
     match ids.concat(alloc) {
         Ok(text) => {
             let facts = Vec::new(alloc);
-            let judged = None;
-            let kept = Kept {
-                text,
-                facts,
-                judged,
-            };
-            hold(alloc, kept, DONE, answer)
+            hold(alloc, Kept { text, facts }, DONE, answer)
         }
         Err(_) => MEMORY,
     }

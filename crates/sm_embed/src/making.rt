@@ -2,15 +2,13 @@
 ghost use Rattle.std.specs.Prelude.{◌≡◌, IfSome, None};
 ghost use Rattle.gen_asked.specs.Ranges.{IsInRange};
 ghost use Rattle.sm_embed.specs.Loops.Keeping.{HoldsIt, IsKept, Keeps};
-ghost use Rattle.sm_embed.specs.JudgedRuns.{IsJudgedAlone, KeepsJudged};
 ghost use Rattle.sm_embed.specs.Making.{MakesJob, line_number};
 
-use crate::answering::{MadeAnswer, told_alone};
 use crate::kept::Kept;
 use crate::numbers::{DONE, FAULT, MEMORY, NO, OTHER_RUN};
 use crate::opaque::SmAnswer;
 use gen_asked::Job;
-use gen_jobs::{JobFault, job_fault_line};
+use gen_jobs::{Answered, JobFault, answer_in_place, job_fault_line};
 use std::alloc::Global;
 
 /// Returns the number for the line of a fault of the input; None for any other fault, which has no line.
@@ -34,37 +32,27 @@ fn line_number(fault: JobFault) -> Option<u32>
 
 /// Returns what is held of an answer, or the line of the fault in its place, and the number that says so. None if memory
 /// was refused.
-fn kept_of(alloc: Global, told: Result<MadeAnswer, JobFault>) -> Option<(Kept, u32)>
-    ensures { IfSome result (λ x. IsKept told x.0 x.1) }
+fn kept_of(alloc: Global, answered: Result<Answered, JobFault>) -> Option<(Kept, u32)>
+    ensures { IfSome result (λ x. IsKept answered x.0 x.1) }
 {
-    match told {
+    match answered {
         Ok(
-            MadeAnswer {
+            Answered {
                 output,
                 facts,
-                judged,
+                judged: _,
             },
         ) => {
             let number = if output.negative { NO } else { DONE };
             let text = output.text;
-            let kept = Kept {
-                text,
-                facts,
-                judged,
-            };
-            Some((kept, number))
+            Some((Kept { text, facts }, number))
         }
         Err(fault) => {
             let number = line_number(fault)?;
             let line = job_fault_line(alloc, fault).ok()?;
             let text = line.into_bytes();
-            let (facts, judged) = (Vec::new(alloc), None);
-            let kept = Kept {
-                text,
-                facts,
-                judged,
-            };
-            Some((kept, number))
+            let facts = Vec::new(alloc);
+            Some((Kept { text, facts }, number))
         }
     }
 }
@@ -84,11 +72,15 @@ pub(crate) fn hold(alloc: Global, kept: Kept, number: u32, answer: &mut SmAnswer
 }
 
 /// Keeps an answer, or the line of the fault in its place, and returns the number that says what is held.
-pub(crate) fn keep(alloc: Global, told: Result<MadeAnswer, JobFault>, answer: &mut SmAnswer) -> u32
+pub(crate) fn keep(
+    alloc: Global,
+    answered: Result<Answered, JobFault>,
+    answer: &mut SmAnswer,
+) -> u32
     requires { answer.old.held ≡ None }
-    ensures { Keeps told answer.new.held result }
+    ensures { Keeps answered answer.new.held result }
 {
-    match kept_of(alloc, told) {
+    match kept_of(alloc, answered) {
         Some((kept, number)) => hold(alloc, kept, number, answer),
         None => MEMORY,
     }
@@ -96,12 +88,10 @@ pub(crate) fn keep(alloc: Global, told: Result<MadeAnswer, JobFault>, answer: &m
 
 /// Makes the answer of a job to an input, and returns the number that says what is held. What was held before is dropped
 /// first.
-#[tactic(auto, using(crate::proofs::Given::is_made, crate::proofs::JudgedKept::keeps_judged))]
 pub(crate) fn keep_job(alloc: Global, job: Job, input: &[u8], answer: &mut SmAnswer) -> u32
     requires { IsInRange job }
-    ensures made { MakesJob job input.now answer.new.held result }
-    ensures judged { KeepsJudged (IsJudgedAlone job input.now) answer.new.held result }
+    ensures { MakesJob job input.now answer.new.held result }
 {
     answer.clear(alloc);
-    keep(alloc, told_alone(alloc, job, input), answer)
+    keep(alloc, answer_in_place(alloc, job, None, input), answer)
 }

@@ -93,7 +93,6 @@ pub(crate) fn file_made(
     Ok(Kept {
         text: write_roots(alloc, &file)?,
         facts: Vec::new(alloc),
-        judged: None,
     })
 }
 
@@ -105,7 +104,6 @@ pub(crate) fn identity_made(alloc: Global, roots: &[u8]) -> Result<Kept, ReadErr
     Ok(Kept {
         text: identity_text(alloc, roots)?,
         facts: Vec::new(alloc),
-        judged: None,
     })
 }
 
@@ -117,11 +115,7 @@ fn with_system(alloc: Global, number: u32, made: Made) -> Result<Kept, AllocErro
     let Made { bytes, system } = made;
     let mut facts = Vec::new(alloc);
     facts.push(system_fact(0, number, &system))?;
-    Ok(Kept {
-        text: bytes,
-        facts,
-        judged: None,
-    })
+    Ok(Kept { text: bytes, facts })
 }
 
 /// Returns the system of the text of a header and these choices, with its id.
@@ -201,7 +195,6 @@ pub(crate) fn header_made(
     Ok(Kept {
         text: made.bytes,
         facts,
-        judged: None,
     })
 }
 
@@ -223,13 +216,7 @@ pub(crate) fn keep_made(
                 Ok(line) => {
                     let text = line.into_bytes();
                     let facts = Vec::new(alloc);
-                    let judged = None;
-                    let kept = Kept {
-                        text,
-                        facts,
-                        judged,
-                    };
-                    hold(alloc, kept, number, answer)
+                    hold(alloc, Kept { text, facts }, number, answer)
                 }
                 Err(_) => MEMORY,
             }

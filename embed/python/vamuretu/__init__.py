@@ -12,7 +12,6 @@ from ._faults import OtherSystem, StateFault, UsedSet
 from ._headers import Header, header, read_header
 from ._jobs import Evidence, accuse, audit, audit_json, decide, decide_json, draw, evidence, evidence_json, explain
 from ._jobs import plan, receipt, receipts, receipts_json, refute, run_ids, show, show_json, words
-from ._judged import Judged, judged
 from ._kept import KeptState
 from ._libraries import use_libraries, version
 from ._nodes import FrameHead, Keys, Node, bundle, frame_head, root, shown
@@ -49,7 +48,6 @@ __all__ = [
     "FrameHead",
     "Header",
     "InputFault",
-    "Judged",
     "Judgement",
     "KeptState",
     "Keys",
@@ -93,7 +91,6 @@ __all__ = [
     "frame_head",
     "header",
     "identity",
-    "judged",
     "next_run",
     "plan",
     "read_header",

@@ -17,8 +17,6 @@ YES, NO, MISUSE, FAULT, MEMORY = range(5)
 NOBODY, OTHER_RUN = 6, 7
 # The forms of an answer.
 TEXT, JSON = 0, 1
-# The form of what was judged alone.
-PICTURE = 2
 # The line of an admission of another system than the one that is expected.
 OTHER_SYSTEM = "fault A11"
 RUNS_MOST = 4
@@ -48,7 +46,7 @@ class Evidence:
     holds: bool
 
 
-def checked(job: str, status: int, text: bytes, facts: List[Fact]) -> Tuple[bool, bytes, List[Fact]]:
+def _checked(job: str, status: int, text: bytes, facts: List[Fact]) -> Tuple[bool, bytes, List[Fact]]:
     """Whether the answer of a job is a no, its text, and its facts."""
     if status == FAULT:
         raise InputFault(text.decode("ascii"))
@@ -67,7 +65,7 @@ def checked(job: str, status: int, text: bytes, facts: List[Fact]) -> Tuple[bool
 def answered(job: str, *words: Any) -> Tuple[bool, bytes, List[Fact]]:
     """The answer of a job on words: whether it is a no, its text, and its facts."""
     function = getattr(library(JOBS), f"sm_{job}")
-    return checked(job, *held(JOBS, lambda answer: int(function(*words, answer))))
+    return _checked(job, *held(JOBS, lambda answer: int(function(*words, answer))))
 
 
 def _made(job: str, given: Bytes, *behind: Any, general: Tuple[int, ...] = ()) -> Tuple[bool, bytes]:

@@ -98,9 +98,6 @@ _ENDS: Dict[str, Dict[str, List[Any]]] = {
         "sm_audit": _READ + _ASKED,
         "sm_draw": _READ + _ASKED,
         "sm_accuse": [c_uint32] + _READ + _ASKED,
-        "sm_told": _ANSWER + [c_uint32] + _ANSWER,
-        "sm_evidence_in": _ANSWER + [c_uint32] + _ANSWER,
-        "sm_held": _ANSWER + [c_uint32] + _ANSWER,
         "sm_evidence": _READ + _ASKED,
         "sm_receipt": [c_uint32] + _READ + _ASKED,
         "sm_receipts": _READ + _ASKED,
@@ -275,18 +272,12 @@ def held(name: str, call: Callable[[Any], int]) -> Tuple[int, bytes, List[Fact]]
     functions = library(name)
     try:
         status = call(ctypes.byref(answer))
-        return status, *parts_of(name, answer)
+        if not answer.value:
+            return status, b"", []
+        data = written(lambda *ends: int(functions.sm_answer_text(ctypes.byref(answer), *ends)), 0)[1]
+        return status, data, _facts_of(functions, answer)
     finally:
         functions.sm_answer_free(ctypes.byref(answer))
-
-
-def parts_of(name: str, answer: c_void_p) -> Tuple[bytes, List[Fact]]:
-    """The bytes and the facts that an answer holds, which stays."""
-    if not answer.value:
-        return b"", []
-    functions = library(name)
-    data = written(lambda *ends: int(functions.sm_answer_text(ctypes.byref(answer), *ends)), 0)[1]
-    return data, _facts_of(functions, answer)
 
 
 def _facts_of(functions: ctypes.CDLL, answer: c_void_p) -> List[Fact]:

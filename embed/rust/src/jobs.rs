@@ -10,8 +10,6 @@ use crate::Fault;
 /// The forms of an answer.
 pub(crate) const TEXT: u32 = 0;
 pub(crate) const JSON: u32 = 1;
-/// The form of what was judged alone.
-pub(crate) const PICTURE: u32 = 2;
 /// The number of the version that both archives tell, as `SM_VERSION_NUMBER` of `sm_status.h`.
 const VERSION_NUMBER: u32 = 2000;
 /// The line of an admission of another system than the one that is expected.

@@ -121,9 +121,6 @@ pub struct SmLog {
 extern "C" {
     pub fn sm_audit(input: *const u8, input_bytes: usize, options: *const SmOptions, answer: *mut SmAnswer) -> u32;
     pub fn sm_draw(input: *const u8, input_bytes: usize, options: *const SmOptions, answer: *mut SmAnswer) -> u32;
-    pub fn sm_told(judged: *mut SmAnswer, form: u32, answer: *mut SmAnswer) -> u32;
-    pub fn sm_evidence_in(judged: *mut SmAnswer, general: u32, answer: *mut SmAnswer) -> u32;
-    pub fn sm_held(judged: *mut SmAnswer, faulty: u32, answer: *mut SmAnswer) -> u32;
     pub fn sm_evidence(input: *const u8, input_bytes: usize, options: *const SmOptions, answer: *mut SmAnswer) -> u32;
     pub fn sm_receipts(input: *const u8, input_bytes: usize, options: *const SmOptions, answer: *mut SmAnswer) -> u32;
     pub fn sm_decide(input: *const u8, input_bytes: usize, options: *const SmOptions, answer: *mut SmAnswer) -> u32;
@@ -295,11 +292,6 @@ impl Held {
         (call(&mut held.0), held)
     }
 
-    /// The answer, for a call that takes it.
-    pub fn at(&mut self) -> *mut SmAnswer {
-        &mut self.0
-    }
-
     /// The bytes that are held: none if nothing is.
     pub fn text(&mut self) -> Vec<u8> {
         // SAFETY: the pointers are of pieces of memory of these lengths that do not overlap, and nobody else has them.
@@ -312,9 +304,6 @@ impl Held {
         written(0, |room, length, count| unsafe { sm_answer_facts(&mut self.0, room, length, count) }).1
     }
 }
-
-// SAFETY: an answer may go from thread to thread, with one call at a time.
-unsafe impl Send for Held {}
 
 impl Drop for Held {
     fn drop(&mut self) {

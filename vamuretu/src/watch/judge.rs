@@ -67,33 +67,27 @@ struct Case<'a> {
     logs: &'a [(u32, &'a [u8])],
 }
 
-/// The logs under a list, as they were judged.
-#[derive(Clone)]
+/// The logs under a list: their bundle, and what was judged of it.
 struct Tried {
     list: List,
+    bundle: Bundle,
     judged: vamuretu::Judged,
 }
 
 impl Case<'_> {
-    /// The bundle of the logs under a list, and what one whole audit judges of it.
-    fn audited(&self, list: List) -> Result<(Bundle, Tried), Fault> {
+    /// Judges the logs under a list, by one whole audit.
+    fn under(&self, list: List) -> Result<Tried, Fault> {
         let assumed: Vec<u32> = list.iter().copied().collect();
         let bundle = Bundle::parted(self.header, &assumed, self.logs)?;
         let judged = vamuretu::Judged::of(self.of, bundle.as_bytes())?;
         match judged.judgement().runs() {
-            [_] => Ok((bundle, Tried { list, judged })),
+            [_] => Ok(Tried { list, bundle, judged }),
             _ => Err(Fault::Misuse),
         }
     }
 }
 
 impl Tried {
-    /// The same logs under another list. No signature is verified again.
-    fn under(&self, list: List) -> Result<Tried, Fault> {
-        let assumed: Vec<u32> = list.iter().copied().collect();
-        Ok(Tried { judged: self.judged.held(&assumed)?, list })
-    }
-
     fn verdict(&self) -> &Verdict {
         &self.judged.judgement().runs()[0]
     }
@@ -127,7 +121,7 @@ fn ends(verdict: &Verdict) -> List {
 
 /// The lists of at most `most` nodes that give a yes, the shortest of them alone, found among those that add ends of messages to
 /// the list of a no. Of all but the first the list alone is told.
-fn shortest(first: &Tried, most: usize) -> Result<Option<(Tried, Vec<List>)>, Fault> {
+fn shortest(case: &Case, first: &Tried, most: usize) -> Result<Option<(Tried, Vec<List>)>, Fault> {
     let mut open = vec![(first.list.clone(), ends(first.verdict()))];
     let (mut seen, mut tried) = (BTreeSet::new(), 0);
     while !open.is_empty() {
@@ -139,7 +133,7 @@ fn shortest(first: &Tried, most: usize) -> Result<Option<(Tried, Vec<List>)>, Fa
                     continue;
                 }
                 tried += 1;
-                let under = first.under(longer)?;
+                let under = case.under(longer)?;
                 match under.verdict().is_no() {
                     true => next.push((under.list.clone(), self::ends(under.verdict()))),
                     false => found.push(under),
@@ -161,22 +155,17 @@ fn shortest(first: &Tried, most: usize) -> Result<Option<(Tried, Vec<List>)>, Fa
 pub fn judge(header: &Header, of: Expected, logs: &[(u32, &[u8])]) -> Result<Judged, Fault> {
     let case = Case { header, of, logs };
     let with: List = logs.iter().map(|log| log.0).collect();
-    let (mut bundle, first) = case.audited((0..header.generals()).filter(|general| !with.contains(general)).collect())?;
-    let mut tried = first.clone();
+    let mut tried = case.under((0..header.generals()).filter(|general| !with.contains(general)).collect())?;
     while tried.verdict().is_no() && !named(tried.verdict()).is_subset(&tried.list) {
         let longer = tried.list.union(&named(tried.verdict())).copied().collect();
-        tried = tried.under(longer)?;
+        tried = case.under(longer)?;
     }
     let mut others = vec![];
     if tried.verdict().is_no() {
         let most = usize::try_from(tried.verdict().traitors).map_err(|_| Fault::Misuse)?;
-        if let Some((shortest, more)) = shortest(&tried, most)? {
-            (tried, others) = (shortest, more);
+        if let Some((first, more)) = shortest(&case, &tried, most)? {
+            (tried, others) = (first, more);
         }
-    }
-    if tried.list != first.list {
-        // The file that is kept has the list of the verdict, and the answer is the one on that file.
-        (bundle, tried) = case.audited(tried.list)?;
     }
     let mut evidence = vec![];
     for it in &tried.verdict().convictions {
@@ -184,7 +173,7 @@ pub fn judge(header: &Header, of: Expected, logs: &[(u32, &[u8])]) -> Result<Jud
         evidence.push((it.general, format!("K{}", it.kind), found));
     }
     let answer = Answer::of(&tried.judged, header.as_bytes())?;
-    Ok(Judged { bundle: bundle.as_bytes().to_vec(), answer, others, evidence })
+    Ok(Judged { bundle: tried.bundle.as_bytes().to_vec(), answer, others, evidence })
 }
 
 /// Whether a log of a node is sealed: whether the node signed all of it, for the run of the header.

@@ -1,7 +1,7 @@
 -- What is held of an answer or of a fault.
 use Rattle.std.specs.Prelude.{ℕ, ◌≡◌, ◌⊎◌, if◌then◌else◌, Option, Some, None, Result, Ok, Err}
 use Rattle.gen_ends.specs.FaultLines.{job_fault_line}
-use Rattle.sm_embed.specs.declared.answering.MadeAnswer.{MadeAnswer}
+use Rattle.gen_jobs.specs.declared.in_place.Answered.{Answered}
 use Rattle.gen_ends.specs.declared.ends.JobFault.{JobFault}
 use Rattle.gen_types.specs.declared.reading.ReadError.{ReadError}
 use Rattle.gen_types.specs.declared.reading.ReadError.TheVariants as errors
@@ -11,15 +11,15 @@ use Rattle.sm_embed.specs.Making.{HoldsText, line_number}
 use Rattle.sm_embed.specs.declared.kept.Kept.{Kept}
 
 -- what is held of an answer, or of the fault in its place, and the number that says so
-abbrev pub IsKept : Result MadeAnswer JobFault → Kept → ℕ → Type 0
-IsKept (Ok told) kept status =
-    (kept ≡ record { text = told.output.text; facts = told.facts; judged = told.judged })
-    × (status ≡ if told.output.negative then 1 else 0)
+abbrev pub IsKept : Result Answered JobFault → Kept → ℕ → Type 0
+IsKept (Ok answered) kept status =
+    (kept ≡ record { text = answered.output.text; facts = answered.facts })
+    × (status ≡ if answered.output.negative then 1 else 0)
 IsKept (Err fault) kept status =
     (line_number fault ≡ Some status) × HoldsText (job_fault_line fault) (Some kept)
 
 -- an answer, or the fault in its place, is held; or nothing is, because memory was refused
-abbrev pub Keeps : Result MadeAnswer JobFault → Option Kept → ℕ → Type 0
+abbrev pub Keeps : Result Answered JobFault → Option Kept → ℕ → Type 0
 Keeps answered None status = status ≡ 4
 Keeps answered (Some kept) status = IsKept answered kept status
 

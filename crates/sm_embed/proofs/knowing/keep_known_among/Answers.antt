@@ -5,10 +5,10 @@ use Rattle.sm_embed.proofs.Admitted.{among_of_fault, among_of_known, among_of_no
 use Rattle.sm_embed.proofs.knowing.keep_known_among.Goals as goal
 
 pub returns-then-number-gt-NO : goal.returns-then-number-gt-NO
-returns-then-number-gt-NO c = among_of_fault c.args.job.now c.args.general c.args.admission.now c.args.system c.args.input.now c.keep_among-number.new.answer.held c.keep_among-number.result c.if-number-gt-NO.true c.keep_among-number.ensures.made
+returns-then-number-gt-NO c = among_of_fault c.args.job.now c.args.general c.args.admission.now c.args.system c.args.input.now c.keep_among-number.new.answer.held c.keep_among-number.result c.if-number-gt-NO.true c.keep_among-number.ensures
 
 pub returns-in-Ok-Some-true : goal.returns-in-Ok-Some-true
-returns-in-Ok-Some-true c = among_of_known c.args.job.now c.args.general c.args.admission.now c.args.system c.args.input.now c.keep_among-number.new.answer.held c.keep_among-number.result c.keep_among-number.ensures.made (subst (λ known. Knows c.args.job.now c.args.general c.args.input.now known) c.in-Ok-Some-true.field-0-0-test (subst (λ (o : Option Bool). MatchOption o (IsUnknown c.args.job.now c.args.input.now) (Knows c.args.job.now c.args.general c.args.input.now)) c.in-Ok-Some-true.field-0-is c.in-Ok-Some-true.ensures))
+returns-in-Ok-Some-true c = among_of_known c.args.job.now c.args.general c.args.admission.now c.args.system c.args.input.now c.keep_among-number.new.answer.held c.keep_among-number.result c.keep_among-number.ensures (subst (λ known. Knows c.args.job.now c.args.general c.args.input.now known) c.in-Ok-Some-true.field-0-0-test (subst (λ (o : Option Bool). MatchOption o (IsUnknown c.args.job.now c.args.input.now) (Knows c.args.job.now c.args.general c.args.input.now)) c.in-Ok-Some-true.field-0-is c.in-Ok-Some-true.ensures))
 
 pub returns-in-Ok-Some-false : goal.returns-in-Ok-Some-false
-returns-in-Ok-Some-false c = among_of_nobody c.args.job.now c.args.general c.args.admission.now c.args.system c.args.input.now c.keep_among-number.new.answer.held c.clear.new.self.held c.keep_among-number.result c.if-number-gt-NO.false c.keep_among-number.ensures.made (subst (λ known. Knows c.args.job.now c.args.general c.args.input.now known) c.in-Ok-Some-false.field-0-0-test (subst (λ (o : Option Bool). MatchOption o (IsUnknown c.args.job.now c.args.input.now) (Knows c.args.job.now c.args.general c.args.input.now)) c.in-Ok-Some-false.field-0-is c.in-Ok-Some-false.ensures)) c.clear.ensures
+returns-in-Ok-Some-false c = among_of_nobody c.args.job.now c.args.general c.args.admission.now c.args.system c.args.input.now c.keep_among-number.new.answer.held c.clear.new.self.held c.keep_among-number.result c.if-number-gt-NO.false c.keep_among-number.ensures (subst (λ known. Knows c.args.job.now c.args.general c.args.input.now known) c.in-Ok-Some-false.field-0-0-test (subst (λ (o : Option Bool). MatchOption o (IsUnknown c.args.job.now c.args.input.now) (Knows c.args.job.now c.args.general c.args.input.now)) c.in-Ok-Some-false.field-0-is c.in-Ok-Some-false.ensures)) c.clear.ensures
