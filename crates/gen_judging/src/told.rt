@@ -35,10 +35,10 @@ pub enum Told {
 }
 
 /// Returns the form of what is told. A picture and evidence are no JSON.
-fn form_told(told: Told) -> Form
-    ensures { result ≡ form_told told }
+fn form_told(told: &Told) -> Form
+    ensures { result ≡ form_told told.now }
 {
-    match told {
+    match *told {
         Told::Verdict { strict: _, form } => form,
         Told::Picture | Told::Evidence { .. } => Form::Text,
     }
@@ -64,7 +64,7 @@ pub fn tell_by_workers<T: Threads + Wait + Sync>(
         input.items o.text.items o.negative) }
     ensures fault { IfErr result (ByWorkers workers (IsHeldFault asked.now input.items)) }
 {
-    let (judged, origin) = judge_beside(rt, alloc, workers, asked, form_told(told), name, input)?;
+    let (judged, origin) = judge_beside(rt, alloc, workers, asked, form_told(&told), name, input)?;
     Ok(judged.tell_from(alloc, told, &origin)?)
 }
 
@@ -96,7 +96,7 @@ impl Judged {
         ensures { IfOk result (λ o. TellsJudged told self.now.asked (option_map (λ t. t.now) name.entry)
             self.now.input o.text.items o.negative) }
     {
-        let origin = origin_in(alloc, form_told(told), name, self.asked(), self.input())?;
+        let origin = origin_in(alloc, form_told(&told), name, self.asked(), self.input())?;
         self.tell_from(alloc, told, &origin)
     }
 }
