@@ -1,5 +1,5 @@
 -- What is shown with other generals assumed faulty is shown of a campaign.
-use Rattle.std.proofs.Common.{◌≡◌, ◌<◌, ◌+◌, ◌≤◌, inl, inr, ℕ, zero, suc, Bool, true, false, cond, not, ltb, List, [], ◌∷◌, ◌++◌, length, take, map, get_or, Contains, All, AllPairs, Result, Ok, Err, Option, Some, None, option_map, refl, sym, ap, subst, ◌∙◌, arith}
+use Rattle.std.proofs.Common.{◌≡◌, ◌<◌, ◌+◌, ◌≤◌, inl, inr, ℕ, zero, suc, Bool, true, false, cond, not, ltb, List, [], ◌∷◌, ◌++◌, length, take, get_or, Contains, All, AllPairs, Some, refl, sym, ap, subst, ◌∙◌, arith}
 use Rattle.std.specs.List.{AllZip, position_or_len}
 use Rattle.std.proofs.lemmas.List.Elements.{All-contains, All-head, All-nil, All-push, All-tail}
 use Rattle.std.proofs.lemmas.List.Kept.{AllPairs-cons}
@@ -9,14 +9,13 @@ use Rattle.gen_types.proofs.Lists.{All_of, AllPairs_head, AllPairs_tail, Contain
 use Rattle.gen_net.specs.Header.{RunHeader}
 use Rattle.gen_net.specs.Network.{IsNetwork, Network}
 use Rattle.gen_log.specs.Fields.{AreBelow}
-use Rattle.gen_log.specs.Writing.{LogBytes}
 use Rattle.gen_audit.specs.Bundle.{Bundle, IsBundle}
 use Rattle.gen_audit.specs.BundleMaking.{are_below}
 use Rattle.gen_audit.specs.BundleParts.{AreListedWalks, IsListedWalk}
 use Rattle.gen_audit.specs.WorldBundle.{AreWalksOfRun}
 use Rattle.gen_audit.proofs.BundleParts.{below_known, below_told}
 use Rattle.gen_audit.proofs.WalkParts.{best_are_listed}
-use Rattle.gen_campaign.specs.Campaign.{AreRuns, AreShown, CampaignBundle, IsCampaign, IsRunBundle, IsSecond, Joins, JoinsRun}
+use Rattle.gen_campaign.specs.Campaign.{AreShown, CampaignBundle, IsCampaign, IsRunBundle, IsSecond, Joins, JoinsRun}
 use Rattle.gen_prepare.specs.Holding as prepared
 use Rattle.gen_judging.specs.Holding.{IsHeld, IsHeldAs, first_lack, lack_fault, lacks}
 use Rattle.gen_asked.specs.declared.faulty.Faulty.TheVariants.{These}
