@@ -1,7 +1,7 @@
 //! The forms of jobs: over a reader and a writer, over bytes, in the thread that calls, and over a writer that fails.
 ghost use Rattle.gen_asked.specs.Ranges.{IsInRange};
 
-use gen_asked::{Asked, Faulty, Job};
+use gen_asked::{Asked, AskedRuns, Faulty, Job};
 use gen_audit::WorkerCount;
 use gen_jobs::{JobEnd, JobFault, Output, answer, answer_in_place, deliver, do_job};
 use gen_judging::{Told, judge_by_workers};
@@ -69,18 +69,34 @@ fn answered_in_place<R: Threads + Wait + Sync>(
     }
 }
 
-/// How a job judges a bundle or a campaign.
+/// How a job judges with generals of its own assumed faulty.
 #[derive(Clone, Copy)]
 struct Judging {
     /// How many workers judge.
     workers: WorkerCount,
-    /// What is asked of what they judge.
-    asked: Asked,
-    /// What is told of that.
+    /// The runs that the input must be of.
+    runs: AskedRuns,
+    /// Who is assumed faulty.
+    faulty: GeneralSet,
+    /// What is told of what is judged.
     told: Told,
 }
 
-/// Returns how a job judges; None for a job that judges no bytes.
+/// Returns how it is judged what is asked for so; None if each bundle's own generals are assumed faulty.
+fn judging_of(workers: WorkerCount, asked: Asked, told: Told) -> Option<Judging> {
+    let runs = asked.runs;
+    match asked.faulty {
+        Faulty::These(faulty) => Some(Judging {
+            workers,
+            runs,
+            faulty,
+            told,
+        }),
+        Faulty::Listed => None,
+    }
+}
+
+/// Returns how a job judges with generals of its own assumed faulty; None if it names none, or judges no bytes.
 fn judged_by(job: &Job) -> Option<Judging> {
     match *job {
         Job::Audit {
@@ -88,36 +104,27 @@ fn judged_by(job: &Job) -> Option<Judging> {
             asked,
             strict,
             form,
-        } => Some(Judging {
-            workers,
-            asked,
-            told: Told::Verdict { strict, form },
-        }),
-        Job::Draw { workers, asked } => Some(Judging {
-            workers,
-            asked,
-            told: Told::Picture,
-        }),
+        } => judging_of(workers, asked, Told::Verdict { strict, form }),
+        Job::Draw { workers, asked } => judging_of(workers, asked, Told::Picture),
         _ => None,
     }
 }
 
 /// Returns what is told of bytes that workers judge with their own generals assumed faulty, and that are then judged with
-/// these.
+/// those of the job.
 fn told_again<R: Threads + Wait + Sync>(
     rt: &R,
     alloc: Global,
     judging: &Judging,
-    faulty: GeneralSet,
     input: &[u8],
 ) -> Result<Output, JobFault> {
     let listed = Asked {
-        runs: judging.asked.runs,
+        runs: judging.runs,
         faulty: Faulty::Listed,
     };
     let input = input.to_vec(alloc)?;
     let judged = judge_by_workers(rt, alloc, judging.workers, &listed, input)?;
-    let held = judged.held(alloc, faulty)?;
+    let held = judged.held(alloc, judging.faulty)?;
     Ok(held.tell(alloc, judging.told, None)?)
 }
 
@@ -132,10 +139,7 @@ fn answered_again<R: Threads + Wait + Sync>(
     requires { IsInRange job }
 {
     match judged_by(&job) {
-        Some(judging) => match judging.asked.faulty {
-            Faulty::These(faulty) => told_again(rt, alloc, &judging, faulty, input),
-            Faulty::Listed => answered_in_place(rt, alloc, job, input),
-        },
+        Some(judging) => told_again(rt, alloc, &judging, input),
         None => answered_in_place(rt, alloc, job, input),
     }
 }
