@@ -17,7 +17,7 @@ import sys
 
 WORDS_A_MINUTE, MOST_WORDS = 200, 100_000
 # The pages and folders of pages for those who change the proofs.
-OF_MAINTAINERS = ("crates/", "edits/", "docs/ROWS.md", "docs/LIBRARY.md", "docs/CHANGING.md", "docs/DECISIONS.md")
+OF_MAINTAINERS = ("crates/", "edits/", "docs/ROWS.md", "docs/VERSION-3.md", "docs/LIBRARY.md", "docs/CHANGING.md", "docs/DECISIONS.md")
 MAP = pathlib.Path("docs/README.md")
 TIME = re.compile(r"(\]\(([^)#\s]+\.md)\) \()(\d+)( min\))")
 

@@ -23,7 +23,7 @@ KEPT = [
     "SECURITY.md",
     "bench/README.md",
     "crates/README.md",
-    "crates/docs/VERSION-3.md",
+    "docs/VERSION-3.md",
     "docs/ANSWERS.md",
     "docs/ARCHITECTURE.md",
     "docs/ARCHIVE.md",

@@ -1,7 +1,7 @@
 """Version 3 in the reference, beside the definitions of gen_named: drawn runs with liars, logs that are bent, and evidence.
 
 No program reads version 3 yet. Nodes of the reference follow, and the faulty sign and send whatever they can: two or three values,
-a value under both orders, chains of theirs behind a chain that they heard, payloads that do not fit. By crates/docs/VERSION-3.md the
+a value under both orders, chains of theirs behind a chain that they heard, payloads that do not fit. By docs/VERSION-3.md the
 rest decide alike, the audit says yes, and nobody of the rest is convicted. Then logs are bent and sealed anew, or others are listed:
 the audit says yes if and only if the logs verify and fit by the definitions as Python (naming.py). Each kind of evidence is made
 against a follower with the follower's stolen keys, and the follower's log answers it.

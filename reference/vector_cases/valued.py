@@ -1,4 +1,4 @@
-"""Vectors of version 3, a draft of which stands in crates/docs/VERSION-3.md: no command reads it yet."""
+"""Vectors of version 3, a draft of which stands in docs/VERSION-3.md: no command reads it yet."""
 
 from __future__ import annotations
 
