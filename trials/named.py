@@ -1,7 +1,7 @@
 """Definitions of gen_named that are weakened one at a time: each has a run, or logs, in which a law is false.
 
-That a proof breaks where a definition is weakened does not show that a law is false then. So each edit of edits/gen_named and of
-the crate's must-fail has a case here, over the definitions as Python (naming.py): by the definitions as they stand the law holds of
+That a proof breaks where a definition is weakened does not show that a law is false then. So each edit of edits/gen_named
+has a case here, over the definitions as Python (naming.py): by the definitions as they stand the law holds of
 it, and by the weakened one it does not. Runs that are drawn, and logs that are bent, try the laws by the definitions as they
 stand. So does each run of a small world. No program is tried.
 """
@@ -13,7 +13,7 @@ import naming
 from naming import Case, Commands, Definitions, Message, Network, Part, Received, Relays, Sent
 
 TOP = os.path.dirname(os.path.dirname(os.path.abspath(__file__)))
-FOLDERS = ("edits/gen_named", "crates/gen_named/must-fail")
+FOLDER = "edits/gen_named"
 A, B, C, E = range(4)
 VALUES = 4
 # So many runs are drawn, and each has its logs bent in so many ways.
@@ -344,7 +344,7 @@ def case_wrong(make):
 
 def names_wrong():
     """What is wrong with the cases beside the edits, or None."""
-    edits = {name.removesuffix(".edit") for folder in FOLDERS for name in os.listdir(os.path.join(TOP, folder))}
+    edits = {name.removesuffix(".edit") for name in os.listdir(os.path.join(TOP, FOLDER))}
     apart = edits ^ {it.__name__ for it in CASES}
     return f"edits without a case, or cases without an edit: {sorted(apart)}" if apart else None
 

@@ -1,6 +1,6 @@
 """The definitions of runs of values, crates/gen_named/specs and those of crates/gen_net/specs below them, as Python.
 
-Each function is one definition, with its name in the spelling of Python. Where an edit of edits/gen_named or of the crate's must-fail
+Each function is one definition, with its name in the spelling of Python. Where an edit of edits/gen_named
 weakens a definition, the function asks `weak`, the name of the edit, and says what the weakened definition says. named.py has for
 each of them a run in which a law is false. A path is a tuple, a set of orders an ascending tuple, and names are a dictionary.
 """
